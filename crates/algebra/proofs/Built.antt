@@ -1,0 +1,116 @@
+-- What is true of the entries after any number of columns? Assumes nothing.
+use mathlib.Core.Path.{_∙_, _≡_, ap, ap₂, refl, subst, sym}
+use mathlib.Core.Bool.{Bool, false, true}
+use mathlib.Core.Logic.{_⊎_, ⊎-elim}
+use mathlib.Core.List.{List}
+use Prim.Native.Nat.{_%_, _+_, _-_, _/_, _<_, _^_, _≤_, suc, zero, zero-le, ℕ}
+use native.Mathlib.Nat.{add-zero, eq-zero-or-pos, le-suc, le-trans, lt-irrefl, lt-of-lt-of-le, not-suc-le-zero}
+use native.Mathlib.Numerals.{add-one}
+use native.Mathlib.Omega.{arith}
+use lib.Arith.{lt-one}
+use lib.Pow.{pow-mono}
+use lib.Dec.{eqb}
+use lib.Count.{trailingZeros, under}
+use lib.ListN.{getD, length, length-replicate, length-set, set}
+use lib.Seq.{getD-set-other, getD-set-same}
+use lib.Bits.{bitXor}
+use borrow.Author.Tests.{eqb-false, eqb-true}
+use Rattle.algebra.proofs.Basis.{Basis, rest→marked, rest→unmarked, skip, start}
+use Rattle.algebra.proofs.Digits.{bit-cases, bit-here, bit-suc, digit, half-lt}
+use Rattle.algebra.proofs.Pivots.{Pivots, insert, pivots-insert, rest-lt}
+use Rattle.algebra.proofs.Search.{below-suc}
+use Rattle.algebra.specs.Elimination.{Echelon, built, choose, grown, noEntries, rest, used, withEntry}
+use Rattle.algebra.specs.Matrix.{oneIf, rank}
+use Rattle.algebra.specs.Vector.{bit}
+
+-- the lowest set bit is set
+pub lowest-on : (k n : ℕ) → 0 < n → n < 2 ^ k → bit n (trailingZeros k n) ≡ 1
+unfolding trailingZeros
+lowest-on zero n p h = absurd (lt-irrefl 0 (subst (λ (x : ℕ). 0 < x) (lt-one h) p))
+lowest-on (suc k) n p h =
+    bit-cases (λ (d : ℕ). n % 2 ≡ d → bit n (under d (trailingZeros k (n / 2))) ≡ 1)
+    (λ e. bit-suc n (trailingZeros k (n / 2)) ∙ lowest-on k (n / 2) (omega arith) (half-lt k h))
+    (λ e. bit-here n ∙ e) (n % 2) (digit n) refl
+
+pub record Built (room : ℕ) (cols : List ℕ) (n j : ℕ) (e : Echelon) : Type 0 where
+  pub basis : Basis cols j (e .vectors) (e .pivots) (e .tags) (e .count)
+  pub pivots : Pivots (e .vectors) (e .pivots) (e .count)
+  pub small : (i : ℕ) → i < e .count → getD (e .vectors) i 0 < 2 ^ n
+  pub count : e .count ≡ rank cols j
+  pub few : e .count ≤ j
+  pub long-ws : length (e .vectors) ≡ room
+  pub long-qs : length (e .pivots) ≡ room
+  pub long-ts : length (e .tags) ≡ room
+
+built-empty : (room : ℕ) (cols : List ℕ) (n : ℕ) → Built room cols n 0 (noEntries room)
+unfolding rank
+built-empty room cols n = record {
+  basis = start cols (noEntries room .vectors) (noEntries room .pivots) (noEntries room .tags);
+  pivots = record { on = λ i h. absurd (not-suc-le-zero h); off = λ m i h l. absurd (not-suc-le-zero h) };
+  small = λ i h. absurd (not-suc-le-zero h);
+  count = refl;
+  few = zero-le;
+  long-ws = length-replicate {A = ℕ} room 0;
+  long-qs = length-replicate {A = ℕ} room 0;
+  long-ts = length-replicate {A = ℕ} room 0;
+}
+
+module _ (room : ℕ) (cols : List ℕ) (n : ℕ) (hn : n ≤ 32) (hc : (i : ℕ) → getD cols i 0 < 2 ^ n) (j : ℕ) (hj : j < room) (e : Echelon) (b : Built room cols n j e) where
+  built-grown : Built room cols n (suc j) (grown e j (getD cols j 0))
+  unfolding grown rank
+  built-grown = go (eqb r 0) refl
+    where
+      r : ℕ
+      r = rest (e .vectors) (e .pivots) (e .count) (getD cols j 0)
+
+      t : ℕ
+      t = bitXor (2 ^ j) (used (e .vectors) (e .pivots) (e .tags) (e .count) (getD cols j 0))
+
+      hr : r < 2 ^ n
+      hr = rest-lt n (e .vectors) (e .pivots) (e .count) (getD cols j 0) (b .small) (hc j)
+
+      kept : (l : List ℕ) (v i : ℕ) → i < e .count → getD (set l (e .count) v) i 0 ≡ getD l i 0
+      kept l v i h = getD-set-other l (e .count) i v 0 (λ q. omega (arith, q))
+
+      put : (l : List ℕ) (v : ℕ) → length l ≡ room → getD (set l (e .count) v) (e .count) 0 ≡ v
+      put l v h = getD-set-same l (e .count) v 0 (omega (arith, b .few))
+
+      nw : getD (set (e .vectors) (e .count) r) (e .count) 0 ≡ r
+      nw = put (e .vectors) r (b .long-ws)
+
+      nb : (r ≡ 0 → ⊥) → bit (getD (set (e .vectors) (e .count) r) (e .count) 0) (getD (set (e .pivots) (e .count) (trailingZeros 32 r)) (e .count) 0) ≡ 1
+      nb f =
+          ap₂ bit nw (put (e .pivots) (trailingZeros 32 r) (b .long-qs))
+          ∙ lowest-on 32 r (⊎-elim (λ (z : r ≡ 0). absurd (f z)) (λ p. p) (eq-zero-or-pos r)) (lt-of-lt-of-le hr (pow-mono hn))
+
+      go : (x : Bool) → eqb r 0 ≡ x → Built room cols n (suc j) (choose x e (withEntry e r t))
+      go true q =
+          let z : r ≡ 0 = eqb-true r 0 q in record {
+            basis = skip cols j (e .vectors) (e .pivots) (e .tags) (e .count) (b .basis) z;
+            pivots = b .pivots;
+            small = b .small;
+            count = b .count ∙ sym (add-zero (rank cols j)) ∙ ap (λ (x : Bool). rank cols j + oneIf x) (sym (rest→unmarked cols j (e .vectors) (e .pivots) (e .tags) (e .count) (b .basis) z));
+            few = omega (arith, b .few);
+            long-ws = b .long-ws;
+            long-qs = b .long-qs;
+            long-ts = b .long-ts;
+          }
+      go false q =
+          let f : r ≡ 0 → ⊥ = eqb-false r 0 q in
+          record {
+            basis = rw (add-one (e .count)) (insert cols j (e .vectors) (e .pivots) (e .tags) (e .count) (b .basis) (set (e .vectors) (e .count) r) (set (e .pivots) (e .count) (trailingZeros 32 r)) (set (e .tags) (e .count) t)
+                (kept (e .vectors) r) (kept (e .pivots) (trailingZeros 32 r)) (kept (e .tags) t) nw (nb f) (put (e .tags) t (b .long-ts)));
+            pivots = rw (add-one (e .count)) (pivots-insert (e .vectors) (e .pivots) (set (e .vectors) (e .count) r) (set (e .pivots) (e .count) (trailingZeros 32 r)) (e .count) (getD cols j 0) (b .pivots)
+                (kept (e .vectors) r) (kept (e .pivots) (trailingZeros 32 r)) nw (nb f));
+            small = λ i h. below-suc (λ (i : ℕ). getD (set (e .vectors) (e .count) r) i 0 < 2 ^ n) (e .count) (λ i h. subst (λ (x : ℕ). x < 2 ^ n) (sym (kept (e .vectors) r i h)) (b .small i h)) (subst (λ (x : ℕ). x < 2 ^ n) (sym nw) hr) i (omega arith);
+            count = ap (λ (x : ℕ). x + 1) (b .count) ∙ ap (λ (x : Bool). rank cols j + oneIf x) (sym (rest→marked cols j (e .vectors) (e .pivots) (e .tags) (e .count) (b .basis) f));
+            few = omega (arith, b .few);
+            long-ws = length-set (e .vectors) (e .count) r ∙ b .long-ws;
+            long-qs = length-set (e .pivots) (e .count) (trailingZeros 32 r) ∙ b .long-qs;
+            long-ts = length-set (e .tags) (e .count) t ∙ b .long-ts;
+          }
+
+pub built-is : (room : ℕ) (cols : List ℕ) (n : ℕ) → n ≤ 32 → ((i : ℕ) → getD cols i 0 < 2 ^ n) → (j : ℕ) → j ≤ room → Built room cols n j (built room cols j)
+unfolding built
+built-is room cols n hn hc zero hj = built-empty room cols n
+built-is room cols n hn hc (suc j) hj = built-grown room cols n hn hc j hj (built room cols j) (built-is room cols n hn hc j (le-trans (le-suc j) hj))

@@ -1,0 +1,58 @@
+-- What are the columns of a matrix, and what matrix has given columns? Assumes nothing.
+use mathlib.Core.Path.{_∙_, _≡_, ap, ap₂, refl, sym}
+use mathlib.Core.List.{List, map}
+use Prim.Native.Nat.{_%_, _*_, _+_, _-_, _/_, _<_, _^_, _≤_, suc, zero, ℕ}
+use native.Mathlib.Nat.{add-zero, div-one, le-of-suc-le-suc, lt-of-lt-of-le, mod-eq-of-lt, mod-one, not-suc-le-zero, zero-add}
+use native.Mathlib.Numerals.{add-one}
+use native.Mathlib.Omega.{arith}
+use lib.Pow.{mod-pow-add, pow-mono, pow-pos, shr-shr}
+use lib.ListN.{getD, length}
+use lib.Bits.{and-comm}
+use Rattle.algebra.proofs.Linear.{apply-lt, dot-comb, dot-unit}
+use Rattle.algebra.specs.Matrix.{apply, columns}
+use Rattle.algebra.specs.Vector.{bit, comb, parity, units}
+
+-- ---- the columns of a matrix of at most k rows
+col-lt : (f : ℕ → ℕ) (k n j i : ℕ) → ((x : ℕ) → f x < 2 ^ k) → getD (map f (units n j)) i 0 < 2 ^ k
+unfolding units
+col-lt f k zero j i h = pow-pos k
+col-lt f k (suc n) j zero h = h (2 ^ j)
+col-lt f k (suc n) j (suc i) h = col-lt f k n (suc j) i h
+
+pub columns-lt : (n : ℕ) (rows : List ℕ) (i : ℕ) → length rows ≤ n → getD (columns n rows) i 0 < 2 ^ n
+unfolding columns
+columns-lt n rows i h = col-lt (apply rows) n n 0 i (λ x. lt-of-lt-of-le (apply-lt rows x) (pow-mono h))
+
+col-at : (f : ℕ → ℕ) (n j i : ℕ) → i < n → getD (map f (units n j)) i 0 ≡ f (2 ^ (j + i))
+unfolding units
+col-at f zero j i h = absurd (not-suc-le-zero h)
+col-at f (suc n) j zero h = ap (λ (k : ℕ). f (2 ^ k)) (sym (add-zero j))
+col-at f (suc n) j (suc i) h = col-at f n (suc j) i (le-of-suc-le-suc h) ∙ ap (λ (k : ℕ). f (2 ^ k)) (omega arith)
+
+pub columns-at : (n : ℕ) (rows : List ℕ) (i : ℕ) → i < n → getD (columns n rows) i 0 ≡ apply rows (2 ^ i)
+unfolding columns
+columns-at n rows i h = col-at (apply rows) n 0 i h ∙ ap (λ (k : ℕ). apply rows (2 ^ k)) (zero-add i)
+
+-- ---- the rows of a matrix given by its columns
+units-length : (f : ℕ → ℕ) (n j : ℕ) → length (map f (units n j)) ≡ n
+unfolding units
+units-length f zero j = refl
+units-length f (suc n) j = ap suc (units-length f n (suc j))
+
+pub columns-length : (n : ℕ) (rows : List ℕ) → length (columns n rows) ≡ n
+unfolding columns
+columns-length n rows = units-length (apply rows) n 0
+
+-- ---- columns of a list of columns is the list of rows
+rows-from : (cols : List ℕ) (m j x : ℕ) → apply (map (apply cols) (units m j)) x ≡ comb cols x / 2 ^ j % 2 ^ m
+unfolding apply units bit
+rows-from cols zero j x = sym (mod-one (comb cols x / 2 ^ j))
+rows-from cols (suc m) j x =
+    ap₂ (λ (u v : ℕ). u * 2 + v) (rows-from cols m (suc j) x)
+    (ap parity (and-comm (apply cols (2 ^ j)) x) ∙ sym (dot-comb cols x (2 ^ j)) ∙ ap parity (and-comm (comb cols x) (2 ^ j)) ∙ dot-unit j (comb cols x))
+    ∙ ap (λ (u : ℕ). u % 2 ^ m * 2 + comb cols x / 2 ^ j % 2) (ap (λ (k : ℕ). comb cols x / 2 ^ k) (sym (add-one j)) ∙ sym (shr-shr (comb cols x) j 1))
+    ∙ sym (mod-pow-add (comb cols x / 2 ^ j) m 1) ∙ ap (λ (k : ℕ). comb cols x / 2 ^ j % 2 ^ k) (add-one m)
+
+pub apply-transpose : (cols : List ℕ) (m x : ℕ) → comb cols x < 2 ^ m → apply (columns m cols) x ≡ comb cols x
+unfolding columns
+apply-transpose cols m x h = rows-from cols m 0 x ∙ ap (λ (k : ℕ). k % 2 ^ m) (div-one (comb cols x)) ∙ mod-eq-of-lt h

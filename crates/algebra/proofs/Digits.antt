@@ -1,0 +1,238 @@
+-- What are xor, and, parity on numbers, digit by digit? Assumes nothing.
+use mathlib.Core.Path.{_∙_, _≡_, ap, ap₂, refl, subst, sym}
+use Prim.Native.Nat.{_%_, _*_, _+_, _-_, _/_, _<_, _^_, _≤_, suc, suc-le-suc, zero, zero-le, ℕ}
+use native.Mathlib.Numerals.{one-add}
+use native.Mathlib.Nat.{add-mod-mod, div-add-mod', div-eq-of-lt, div-lt-iff-lt-mul, div-one, le-of-suc-le-suc, lt-of-lt-of-le, mod-lt, not-suc-le-zero, pow-suc, zero-div, zero-lt-suc}
+use native.Mathlib.Omega.{arith}
+use lib.Arith.{bin-ind, digits-div, digits-mod, half-le, lt-one}
+use lib.Pow.{pow-mono, pow-pos, shr-shr}
+use lib.Bits.{and-comm, and-mod, and-shr, bitAnd, bitXor, xor-comm, xor-lt, xor-mod, xor-self, xor-shr, xor-zero-r}
+use lib.Count.{ones, ones-step}
+use mathlib.Core.Logic.{_⊎_, ⊎-elim}
+use Rattle.algebra.proofs.Search.{le-or-lt}
+use Rattle.algebra.specs.Vector.{bit, parity, times}
+
+two-pos : 0 < 2
+two-pos = zero-lt-suc 1
+
+-- a statement about a digit, from its two cases
+pub bit-cases : (P : ℕ → Type 0) → P 0 → P 1 → (x : ℕ) → x < 2 → P x
+bit-cases P p q zero h = p
+bit-cases P p q (suc zero) h = q
+bit-cases P p q (suc (suc x)) h = absurd (not-suc-le-zero (le-of-suc-le-suc (le-of-suc-le-suc h)))
+
+pub digit : (x : ℕ) → x % 2 < 2
+digit x = mod-lt x two-pos
+
+pub half-lt : {a : ℕ} (k : ℕ) → a < 2 ^ suc k → a / 2 < 2 ^ k
+half-lt {a} k h = div-lt-iff-lt-mul two-pos .1 (subst (λ (x : ℕ). a < x) (pow-suc 2 k) h)
+
+-- two numbers with the same half and the same lowest digit are equal
+pub bin-ext : (a b : ℕ) → a / 2 ≡ b / 2 → a % 2 ≡ b % 2 → a ≡ b
+bin-ext a b p q = sym (div-add-mod' a 2) ∙ ap₂ (λ (x y : ℕ). x * 2 + y) p q ∙ div-add-mod' b 2
+
+-- ---- an operation of three numbers that works digit by digit is known by what it does on digits
+pub record Digitwise (f : ℕ → ℕ → ℕ → ℕ) : Type 0 where
+  pub half : (a b c : ℕ) → f a b c / 2 ≡ f (a / 2) (b / 2) (c / 2)
+  pub odd : (a b c : ℕ) → f a b c % 2 ≡ f (a % 2) (b % 2) (c % 2)
+
+pub digitwise : (f g : ℕ → ℕ → ℕ → ℕ) → Digitwise f → Digitwise g
+    → ((x y z : ℕ) → x < 2 → y < 2 → z < 2 → f x y z ≡ g x y z) → (a b c : ℕ) → f a b c ≡ g a b c
+digitwise f g hf hg low a b c = go (a + b + c) a b c (omega arith) (omega arith) (omega arith)
+  where
+    go : (n a b c : ℕ) → a ≤ n → b ≤ n → c ≤ n → f a b c ≡ g a b c
+    go zero a b c ha hb hc = low a b c (omega arith) (omega arith) (omega arith)
+    go (suc n) a b c ha hb hc =
+        bin-ext (f a b c) (g a b c)
+        (hf .half a b c ∙ go n (a / 2) (b / 2) (c / 2) (half-le ha) (half-le hb) (half-le hc) ∙ sym (hg .half a b c))
+        (hf .odd a b c ∙ low (a % 2) (b % 2) (c % 2) (digit a) (digit b) (digit c) ∙ sym (hg .odd a b c))
+
+-- on digits a law of three is eight computations
+pub on-digits : (P : ℕ → ℕ → ℕ → Type 0)
+    → P 0 0 0 → P 0 0 1 → P 0 1 0 → P 0 1 1 → P 1 0 0 → P 1 0 1 → P 1 1 0 → P 1 1 1
+    → (x y z : ℕ) → x < 2 → y < 2 → z < 2 → P x y z
+on-digits P a b c d e f g h x y z hx hy hz =
+    bit-cases (λ (x : ℕ). P x y z)
+    (bit-cases (λ (y : ℕ). P 0 y z) (bit-cases (λ (z : ℕ). P 0 0 z) a b z hz) (bit-cases (λ (z : ℕ). P 0 1 z) c d z hz) y hy)
+    (bit-cases (λ (y : ℕ). P 1 y z) (bit-cases (λ (z : ℕ). P 1 0 z) e f z hz) (bit-cases (λ (z : ℕ). P 1 1 z) g h z hz) y hy)
+    x hx
+
+-- ---- xor
+xor-half : (a b : ℕ) → bitXor a b / 2 ≡ bitXor (a / 2) (b / 2)
+xor-half a b = xor-shr a b 1
+
+xor-odd : (a b : ℕ) → bitXor a b % 2 ≡ bitXor (a % 2) (b % 2)
+xor-odd a b = xor-mod a b 1
+
+and-half : (a b : ℕ) → bitAnd a b / 2 ≡ bitAnd (a / 2) (b / 2)
+and-half a b = and-shr a b 1
+
+and-odd : (a b : ℕ) → bitAnd a b % 2 ≡ bitAnd (a % 2) (b % 2)
+and-odd a b = and-mod a b 1
+
+pub xor-assoc : (a b c : ℕ) → bitXor (bitXor a b) c ≡ bitXor a (bitXor b c)
+xor-assoc =
+    digitwise (λ a b c. bitXor (bitXor a b) c) (λ a b c. bitXor a (bitXor b c))
+    (record {
+      half = λ a b c. xor-half (bitXor a b) c ∙ ap (λ (x : ℕ). bitXor x (c / 2)) (xor-half a b);
+      odd = λ a b c. xor-odd (bitXor a b) c ∙ ap (λ (x : ℕ). bitXor x (c % 2)) (xor-odd a b);
+    })
+    (record {
+      half = λ a b c. xor-half a (bitXor b c) ∙ ap (bitXor (a / 2)) (xor-half b c);
+      odd = λ a b c. xor-odd a (bitXor b c) ∙ ap (bitXor (a % 2)) (xor-odd b c);
+    })
+    (on-digits (λ a b c. bitXor (bitXor a b) c ≡ bitXor a (bitXor b c)) refl refl refl refl refl refl refl refl)
+
+pub and-xor : (a b c : ℕ) → bitAnd a (bitXor b c) ≡ bitXor (bitAnd a b) (bitAnd a c)
+and-xor =
+    digitwise (λ a b c. bitAnd a (bitXor b c)) (λ a b c. bitXor (bitAnd a b) (bitAnd a c))
+    (record {
+      half = λ a b c. and-half a (bitXor b c) ∙ ap (bitAnd (a / 2)) (xor-half b c);
+      odd = λ a b c. and-odd a (bitXor b c) ∙ ap (bitAnd (a % 2)) (xor-odd b c);
+    })
+    (record {
+      half = λ a b c. xor-half (bitAnd a b) (bitAnd a c) ∙ ap₂ bitXor (and-half a b) (and-half a c);
+      odd = λ a b c. xor-odd (bitAnd a b) (bitAnd a c) ∙ ap₂ bitXor (and-odd a b) (and-odd a c);
+    })
+    (on-digits (λ a b c. bitAnd a (bitXor b c) ≡ bitXor (bitAnd a b) (bitAnd a c)) refl refl refl refl refl refl refl refl)
+
+-- x xor (x xor y) is y
+pub xor-cancel : (x y : ℕ) → bitXor x (bitXor x y) ≡ y
+xor-cancel x y = sym (xor-assoc x x y) ∙ ap (λ (k : ℕ). bitXor k y) (xor-self x)
+
+pub xor-cancel-r : (x y : ℕ) → bitXor (bitXor x y) y ≡ x
+xor-cancel-r x y = xor-assoc x y y ∙ ap (bitXor x) (xor-self y) ∙ xor-zero-r x
+
+-- numbers whose xor is zero are equal
+pub xor-eq : (x y : ℕ) → bitXor x y ≡ 0 → x ≡ y
+xor-eq x y e = sym (xor-zero-r x) ∙ ap (bitXor x) (sym e) ∙ xor-cancel x y
+
+-- xor a number over to the other side
+pub xor-move : (x y z : ℕ) → bitXor x y ≡ z → x ≡ bitXor z y
+xor-move x y z e = sym (xor-cancel-r x y) ∙ ap (λ (k : ℕ). bitXor k y) e
+
+-- two sums, regrouped
+pub xor4 : (a b c d : ℕ) → bitXor (bitXor a b) (bitXor c d) ≡ bitXor (bitXor a c) (bitXor b d)
+xor4 a b c d =
+    xor-assoc a b (bitXor c d)
+    ∙ ap (bitXor a) (sym (xor-assoc b c d) ∙ ap (λ (k : ℕ). bitXor k d) (xor-comm b c) ∙ xor-assoc c b d)
+    ∙ sym (xor-assoc a c (bitXor b d))
+
+-- ---- one bit of a number
+pub bit-lt : (x i : ℕ) → bit x i < 2
+unfolding bit
+bit-lt x i = digit (x / 2 ^ i)
+
+pub bit-zero : (i : ℕ) → bit 0 i ≡ 0
+unfolding bit
+bit-zero i = ap (λ (k : ℕ). k % 2) (zero-div (2 ^ i))
+
+pub bit-here : (x : ℕ) → bit x 0 ≡ x % 2
+unfolding bit
+bit-here x = ap (λ (k : ℕ). k % 2) (div-one x)
+
+pub bit-suc : (x i : ℕ) → bit x (suc i) ≡ bit (x / 2) i
+unfolding bit
+bit-suc x i = ap (λ (k : ℕ). k % 2) (ap (λ (k : ℕ). x / 2 ^ k) (sym (one-add i)) ∙ sym (shr-shr x 1 i))
+
+pub bit-xor : (x y i : ℕ) → bit (bitXor x y) i ≡ bitXor (bit x i) (bit y i)
+unfolding bit
+bit-xor x y i = ap (λ (k : ℕ). k % 2) (xor-shr x y i) ∙ xor-odd (x / 2 ^ i) (y / 2 ^ i)
+
+-- ---- a digit times a vector
+pub times-zero : (d : ℕ) → times d 0 ≡ 0
+unfolding times
+times-zero zero = refl
+times-zero (suc d) = refl
+
+pub times-xor : (d u v : ℕ) → times d (bitXor u v) ≡ bitXor (times d u) (times d v)
+unfolding times
+times-xor zero u v = refl
+times-xor (suc d) u v = refl
+
+pub times-add : (d e v : ℕ) → d < 2 → e < 2 → times (bitXor d e) v ≡ bitXor (times d v) (times e v)
+unfolding times
+times-add d e v hd he =
+    bit-cases (λ (d : ℕ). times (bitXor d e) v ≡ bitXor (times d v) (times e v)) refl
+    (bit-cases (λ (e : ℕ). times (bitXor 1 e) v ≡ bitXor v (times e v)) (sym (xor-zero-r v)) (sym (xor-self v)) e he) d hd
+
+pub times-lt : (k d v : ℕ) → v < 2 ^ k → times d v < 2 ^ k
+unfolding times
+times-lt k zero v h = pow-pos k
+times-lt k (suc d) v h = h
+
+-- the digit AND another digit
+pub and-times : (d e : ℕ) → d < 2 → e < 2 → bitAnd d e ≡ times d e
+unfolding times
+and-times d e hd he =
+    bit-cases (λ (d : ℕ). bitAnd d e ≡ times d e) refl (bit-cases (λ (e : ℕ). bitAnd 1 e ≡ e) refl refl e he) d hd
+
+-- ---- parity
+pub parity-lt : (x : ℕ) → parity x < 2
+unfolding parity
+parity-lt x = digit (ones x)
+
+pub parity-zero : parity 0 ≡ 0
+unfolding parity ones
+parity-zero = refl
+
+pub parity-step : (x : ℕ) → parity x ≡ bitXor (x % 2) (parity (x / 2))
+unfolding parity
+parity-step x =
+    ap (λ (k : ℕ). k % 2) (ones-step x) ∙ sym (add-mod-mod (x % 2) (ones (x / 2)) 2)
+    ∙ bit-cases (λ (d : ℕ). (d + ones (x / 2) % 2) % 2 ≡ bitXor d (ones (x / 2) % 2))
+    (bit-cases (λ (e : ℕ). (0 + e) % 2 ≡ e) refl refl (ones (x / 2) % 2) (digit (ones (x / 2))))
+    (bit-cases (λ (e : ℕ). (1 + e) % 2 ≡ bitXor 1 e) refl refl (ones (x / 2) % 2) (digit (ones (x / 2)))) (x % 2) (digit x)
+
+pub parity-digit : (u d : ℕ) → d < 2 → parity (u * 2 + d) ≡ bitXor d (parity u)
+parity-digit u d h = parity-step (u * 2 + d) ∙ ap₂ (λ (x y : ℕ). bitXor x (parity y)) (digits-mod u h) (digits-div u h)
+
+pub parity-bit : (d : ℕ) → d < 2 → parity d ≡ d
+unfolding parity ones
+parity-bit = bit-cases (λ (d : ℕ). parity d ≡ d) refl refl
+
+pub parity-xor : (a b : ℕ) → parity (bitXor a b) ≡ bitXor (parity a) (parity b)
+parity-xor a =
+    bin-ind (λ (n : ℕ). (b : ℕ) → parity (bitXor n b) ≡ bitXor (parity n) (parity b))
+    (λ b. ap (λ (k : ℕ). bitXor k (parity b)) (sym parity-zero))
+    (λ n ih b.
+    parity-step (bitXor n b) ∙ ap₂ (λ (x y : ℕ). bitXor x (parity y)) (xor-odd n b) (xor-half n b)
+    ∙ ap (bitXor (bitXor (n % 2) (b % 2))) (ih (b / 2))
+    ∙ xor4 (n % 2) (b % 2) (parity (n / 2)) (parity (b / 2))
+    ∙ sym (ap₂ bitXor (parity-step n) (parity-step b)))
+    a
+
+-- the parity of r AND x is linear in x, and in r
+pub dot-xor : (r x y : ℕ) → parity (bitAnd r (bitXor x y)) ≡ bitXor (parity (bitAnd r x)) (parity (bitAnd r y))
+dot-xor r x y = ap parity (and-xor r x y) ∙ parity-xor (bitAnd r x) (bitAnd r y)
+
+pub dot-xor-l : (r s x : ℕ) → parity (bitAnd (bitXor r s) x) ≡ bitXor (parity (bitAnd r x)) (parity (bitAnd s x))
+dot-xor-l r s x =
+    ap parity (and-comm (bitXor r s) x) ∙ dot-xor x r s
+    ∙ ap₂ (λ (u v : ℕ). bitXor (parity u) (parity v)) (and-comm x r) (and-comm x s)
+
+pub bit-times : (d w q : ℕ) → bit (times d w) q ≡ times d (bit w q)
+unfolding times
+bit-times zero w q = bit-zero q
+bit-times (suc d) w q = refl
+
+pub times-one : (d : ℕ) → d < 2 → times d 1 ≡ d
+unfolding times
+times-one = bit-cases (λ (d : ℕ). times d 1 ≡ d) refl refl
+
+-- a set bit of a number below 2 ^ n stands below n
+pub bit-place : (n x i : ℕ) → x < 2 ^ n → bit x i ≡ 1 → i < n
+unfolding bit
+bit-place n x i h e =
+    ⊎-elim (λ (l : n ≤ i). absurd (let z : _≡_ {A = ℕ} 0 1 = sym (ap (λ (k : ℕ). k % 2) (div-eq-of-lt (lt-of-lt-of-le h (pow-mono l)))) ∙ e in omega arith)) (λ l. l) (le-or-lt n i)
+
+-- a number with no bit set is zero
+pub bits-zero : (n x : ℕ) → x < 2 ^ n → ((i : ℕ) → i < n → bit x i ≡ 0) → x ≡ 0
+bits-zero zero x h f = lt-one h
+bits-zero (suc n) x h f =
+    bin-ext x 0 (bits-zero n (x / 2) (half-lt n h) (λ i l. sym (bit-suc x i) ∙ f (suc i) (suc-le-suc l)))
+    (sym (bit-here x) ∙ f 0 (suc-le-suc zero-le))
+
+-- ---- numbers with the same bits
+pub bits-same : (n x y : ℕ) → x < 2 ^ n → y < 2 ^ n → ((i : ℕ) → i < n → bit x i ≡ bit y i) → x ≡ y
+bits-same n x y hx hy e = xor-eq x y (bits-zero n (bitXor x y) (xor-lt n x y hx hy) (λ i l. bit-xor x y i ∙ ap (λ (k : ℕ). bitXor k (bit y i)) (e i l) ∙ xor-self (bit y i)))

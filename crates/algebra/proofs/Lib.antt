@@ -1,0 +1,17 @@
+pub mod Digits
+pub mod Search
+pub mod Linear
+pub mod Singular
+pub mod Pigeon
+pub mod Kernel
+pub mod Basis
+pub mod Pivots
+pub mod Spill
+pub mod Solve
+pub mod Columns
+pub mod Parts
+pub mod Rank
+pub mod Inverse
+pub mod Built
+pub mod Questions
+pub mod Loops

@@ -1,0 +1,43 @@
+-- What do some of the rows of a matrix do? Assumes nothing.
+use mathlib.Core.Path.{_∙_, _≡_, ap, ap₂, sym}
+use mathlib.Core.Bool.{false}
+use mathlib.Core.List.{List, [], _∷_}
+use Prim.Native.Nat.{_%_, _*_, _+_, _-_, _/_, _<_, _^_, suc, zero, ℕ}
+use native.Mathlib.Nat.{div-one, mod-one, zero-div, zero-mod}
+use native.Mathlib.Numerals.{add-one, one-add}
+use lib.Arith.{digits-div, digits-mod}
+use lib.Pow.{mod-pow-add, shr-shr}
+use lib.ListN.{drop, take}
+use lib.Bits.{bitAnd}
+use Rattle.algebra.proofs.Digits.{parity-lt}
+use Rattle.algebra.proofs.Spill.{Through, through→no-spill}
+use Rattle.algebra.specs.Matrix.{apply, spills}
+use Rattle.algebra.specs.Vector.{parity}
+
+-- the rows from b on: the bits from b on
+pub apply-drop : (rows : List ℕ) (b x : ℕ) → apply (drop b rows) x ≡ apply rows x / 2 ^ b
+unfolding apply
+apply-drop rows zero x = sym (div-one (apply rows x))
+apply-drop [] (suc b) x = sym (zero-div (2 ^ suc b))
+apply-drop (r ∷ rs) (suc b) x =
+    apply-drop rs b x ∙ ap (λ (k : ℕ). k / 2 ^ b) (sym (digits-div (apply rs x) (parity-lt (bitAnd r x))))
+    ∙ shr-shr (apply rs x * 2 + parity (bitAnd r x)) 1 b ∙ ap (λ (k : ℕ). (apply rs x * 2 + parity (bitAnd r x)) / 2 ^ k) (one-add b)
+
+-- the first k rows: the low k bits
+pub apply-take : (rows : List ℕ) (k x : ℕ) → apply (take k rows) x ≡ apply rows x % 2 ^ k
+unfolding apply
+apply-take rows zero x = sym (mod-one (apply rows x))
+apply-take [] (suc k) x = sym (zero-mod (2 ^ suc k))
+apply-take (r ∷ rs) (suc k) x =
+    ap (λ (u : ℕ). u * 2 + parity (bitAnd r x)) (apply-take rs k x)
+    ∙ sym (ap (λ (j : ℕ). (apply rs x * 2 + parity (bitAnd r x)) % 2 ^ j) (sym (add-one k))
+    ∙ mod-pow-add (apply rs x * 2 + parity (bitAnd r x)) k 1
+    ∙ ap₂ (λ (u v : ℕ). u % 2 ^ k * 2 + v) (digits-div (apply rs x) (parity-lt (bitAnd r x))) (digits-mod (apply rs x) (parity-lt (bitAnd r x))))
+
+-- bits b..m-1 of A z
+pub middle-is : (b m : ℕ) (rows : List ℕ) (z : ℕ) → apply (take (m - b) (drop b rows)) z ≡ apply rows z / 2 ^ b % 2 ^ (m - b)
+middle-is b m rows z = apply-take (drop b rows) (m - b) z ∙ ap (λ (k : ℕ). k % 2 ^ (m - b)) (apply-drop rows b z)
+
+pub dry-by-bits : (b m : ℕ) (rows : List ℕ) → ((z : ℕ) → z < 2 ^ m → apply rows z / 2 ^ b % 2 ^ (m - b) ≡ 0 → apply rows z / 2 ^ m ≡ 0) → spills b m rows ≡ false
+unfolding Through
+dry-by-bits b m rows f = through→no-spill b m rows (λ z h e. apply-drop rows m z ∙ f z h (sym (middle-is b m rows z) ∙ e))

@@ -1,0 +1,5 @@
+-- Linear algebra over GF(2), on numbers.
+pub mod Search
+pub mod Vector
+pub mod Matrix
+pub mod Elimination

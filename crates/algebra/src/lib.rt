@@ -1,0 +1,1 @@
+// Numbers as vectors over GF(2), and matrices of them: definitions and laws, no code.

@@ -1,0 +1,76 @@
+-- What does a geometry inside the limits give a proof? Assumes nothing.
+use mathlib.Core.Path.{_≡_, refl, sym, ap, _∙_}
+use mathlib.Core.Bool.{Bool, true, false, _&&_, true≢false, false≢true}
+use Prim.Native.Nat.{ℕ, _+_, _≤_, _<_}
+use lib.Dec.{ltb, leb}
+use borrow.Author.Tests.{ltb-true, leb-true, lt-ltb, le-leb}
+use Rattle.bank.specs.Limits.{ROWS, BYTES}
+use Rattle.bank.specs.Geometry.{inLimits}
+use Rattle.bank.specs.declared.Geometry.{Geometry}
+
+-- both parts of a conjunction
+pub and-l : (a b : Bool) → a && b ≡ true → a ≡ true
+and-l true b e = refl
+and-l false b e = e
+
+pub and-r : (a b : Bool) → a && b ≡ true → b ≡ true
+and-r true b e = e
+and-r false b e = absurd (false≢true e)
+
+pub and-both : (a b : Bool) → a ≡ true → b ≡ true → a && b ≡ true
+and-both a b p q = rw (p, q)
+
+-- the limits, one by one
+pub record Allowed (g : Geometry) : Type 0 where
+  pub n-low : 2 ≤ g .n
+  pub n-high : g .n ≤ ROWS
+  pub block-below : g .b < g .m
+  pub memory-below : g .m < g .n
+  pub drives-fit : g .b + g .d ≤ g .m
+  pub r-low : 1 ≤ g .r
+  pub r-high : g .r ≤ BYTES
+
+pub limits→allowed : (g : Geometry) → inLimits g ≡ true → Allowed g
+unfolding inLimits
+limits→allowed g e =
+    let n1 = leb 2 (g .n) in
+    let n2 = n1 && leb (g .n) ROWS in
+    let b1 = n2 && ltb (g .b) (g .m) in
+    let m1 = b1 && ltb (g .m) (g .n) in
+    let d1 = m1 && leb (g .b + g .d) (g .m) in
+    let r1 = d1 && leb 1 (g .r) in
+    let e6 = and-l r1 (leb (g .r) BYTES) e in
+    let e5 = and-l d1 (leb 1 (g .r)) e6 in
+    let e4 = and-l m1 (leb (g .b + g .d) (g .m)) e5 in
+    let e3 = and-l b1 (ltb (g .m) (g .n)) e4 in
+    let e2 = and-l n2 (ltb (g .b) (g .m)) e3 in
+    record {
+      n-low = leb-true 2 (g .n) (and-l n1 (leb (g .n) ROWS) e2);
+      n-high = leb-true (g .n) ROWS (and-r n1 (leb (g .n) ROWS) e2);
+      block-below = ltb-true (g .b) (g .m) (and-r n2 (ltb (g .b) (g .m)) e3);
+      memory-below = ltb-true (g .m) (g .n) (and-r b1 (ltb (g .m) (g .n)) e4);
+      drives-fit = leb-true (g .b + g .d) (g .m) (and-r m1 (leb (g .b + g .d) (g .m)) e5);
+      r-low = leb-true 1 (g .r) (and-r d1 (leb 1 (g .r)) e6);
+      r-high = leb-true (g .r) BYTES (and-r r1 (leb (g .r) BYTES) e);
+    }
+
+pub allowed→limits : (g : Geometry) → Allowed g → inLimits g ≡ true
+unfolding inLimits
+allowed→limits g k =
+    rw (
+      le-leb 2 (g .n) (k .n-low),
+      le-leb (g .n) ROWS (k .n-high),
+      lt-ltb (g .b) (g .m) (k .block-below),
+      lt-ltb (g .m) (g .n) (k .memory-below),
+      le-leb (g .b + g .d) (g .m) (k .drives-fit),
+      le-leb 1 (g .r) (k .r-low),
+      le-leb (g .r) BYTES (k .r-high),
+    )
+
+-- a geometry that breaks a limit
+pub outside : (g : Geometry) → (Allowed g → ⊥) → inLimits g ≡ false
+outside g f = go (inLimits g) refl
+  where
+    go : (t : Bool) → inLimits g ≡ t → t ≡ false
+    go true e = absurd (f (limits→allowed g e))
+    go false e = refl

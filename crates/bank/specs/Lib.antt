@@ -1,0 +1,3 @@
+-- The bank of drives: its limits and its numbers.
+pub mod Limits
+pub mod Geometry
