@@ -20,7 +20,9 @@ abbrev μ-loop : tie.MeasureT-loop
 μ-loop v t vectors pivots tags count u₀ s₀ i₀ u s i = count - i
 
 loop-holds : tie.Need-loop-holds Inv-loop μ-loop
-loop-holds c = search needs
+loop-holds c =
+    let a = c .before .before .before .args in
+    (search needs, rest-start (a .e .vectors) (a .e .pivots) (a .v), used-start (a .e .vectors) (a .e .pivots) (a .e .tags) (a .t) (a .v))
 
 mul-bit-of : tie.Need-mul-bit-of Inv-loop μ-loop
 mul-bit-of c = search needs
@@ -56,10 +58,16 @@ loop-less : tie.Need-loop-less Inv-loop μ-loop
 loop-less c = search needs
 
 loop-again : tie.Need-loop-again Inv-loop μ-loop
-loop-again c = search needs
+loop-again c =
+    let a = c .before .before .before .before .before .before .before .before .args in
+    let i = c .before .before .before .before .loop .i in (
+      search needs,
+      cc (rest-next (a .e .vectors) (a .e .pivots) i (a .v)),
+      cc (used-next (a .e .vectors) (a .e .pivots) (a .e .tags) (a .t) i (a .v)),
+    )
 
 returns : tie.Need-returns Inv-loop μ-loop
-returns c = search needs
+returns c = let done : c .before .loop .i ≡ c .before .before .before .before .before .args .e .count = omega arith in (cc, cc)
 
 pub reduce-spec : {M : Type 1} → statement M
 reduce-spec =

@@ -1,3 +1,13 @@
+-- `matrix::rows::columns` meets its contract. The loop's invariant: the first j columns are in place. Assumes nothing.
+use mathlib.Core.Path.{_≡_, refl}
+use Prim.Native.Nat.{_-_, _≤_}
+use native.Mathlib.Omega.{arith}
+use lib.ListN.{drop, take}
+use borrow.Author.Needs.{needs}
+use Rattle.bank.specs.Limits.{ROWS}
+use Rattle.matrix.proofs.Filled.{filled, filled-all, filled-next}
+use Rattle.algebra.specs.Matrix.{columns}
+use Rattle.algebra.proofs.Columns.{columns-at, columns-length}
 use Rattle.matrix.proofs.rows.columns.Statement.{statement}
 use Rattle.matrix.proofs.rows.columns.Tie as tie
 use Rattle.matrix.proofs.rows.columns.Reads as reads
@@ -6,50 +16,50 @@ use Rattle.matrix.proofs.rows.apply_part.Reads as apply-part-reads
 use Rattle.matrix.proofs.vector.power.Reads as power-reads
 
 abbrev Inv-loop : tie.InvT-loop
-Inv-loop rows from to n cols₀ j₀ cols j = ?
+Inv-loop rows from to n cols₀ j₀ cols j = (j ≤ n) × (cols ≡ filled ROWS (columns n (take (to - from) (drop from rows))) j)
 
 abbrev μ-loop : tie.MeasureT-loop
-μ-loop rows from to n cols₀ j₀ cols j = ?
+μ-loop rows from to n cols₀ j₀ cols j = n - j
 
--- src/rows.rt:42:5
 loop-holds : tie.Need-loop-holds Inv-loop μ-loop
-loop-holds c = ?
+loop-holds c = (search needs, refl)
 
--- src/rows.rt:43:52
 cast-power : tie.Need-cast-power Inv-loop μ-loop
-cast-power c = ?
+cast-power c = search needs
 
--- src/rows.rt:43:46
 power-requires : tie.Need-power-requires Inv-loop μ-loop
-power-requires c κs = ?
+power-requires c κs = search needs
 
--- src/rows.rt:43:19
 apply-part-requires : tie.Need-apply-part-requires Inv-loop μ-loop
-apply-part-requires c κs = ?
+apply-part-requires c κs = search needs
 
--- src/rows.rt:43:9
 mul-cols : tie.Need-mul-cols Inv-loop μ-loop
-mul-cols c = ?
+mul-cols c = search needs
 
--- src/rows.rt:43:9
 array-write-cols : tie.Need-array-write-cols Inv-loop μ-loop
-array-write-cols c = ?
+array-write-cols c = search needs
 
--- src/rows.rt:44:9
 add-j : tie.Need-add-j Inv-loop μ-loop
-add-j c = ?
+add-j c = search needs
 
--- src/rows.rt:42:5
 loop-less : tie.Need-loop-less Inv-loop μ-loop
-loop-less c = ?
+loop-less c = search needs
 
--- src/rows.rt:42:5
 loop-again : tie.Need-loop-again Inv-loop μ-loop
-loop-again c = ?
+loop-again c =
+    let a = c .before .before .before .before .args in
+    let l = c .before .before .before .loop in
+    let part = take (a .to - a .from) (drop (a .from) (a .rows .now)) in (
+      search needs,
+      filled-next ROWS (columns (a .n) part) (omega (arith, columns-length (a .n) part)) (l .j) (c .apply-part .result) (l .cols) (omega (arith, columns-length (a .n) part)) (l .inv .1) (cc (columns-at (a .n) part (l .j) (search needs))),
+    )
 
--- src/rows.rt:36:1
 returns : tie.Need-returns Inv-loop μ-loop
-returns c = ?
+returns c =
+    let a = c .before .before .args in
+    let l = c .before .loop in
+    let part = take (a .to - a .from) (drop (a .from) (a .rows .now)) in
+    filled-all ROWS (columns (a .n) part) (omega (arith, columns-length (a .n) part)) (a .n) (l .j) (l .cols) (columns-length (a .n) part) (omega arith) (l .inv .1)
 
 pub columns-spec : {M : Type 1} → statement M
 columns-spec =

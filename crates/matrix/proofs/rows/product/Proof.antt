@@ -1,3 +1,12 @@
+-- `matrix::rows::product` meets its contract. The loop's invariant: the first i rows are in place. Assumes nothing.
+use mathlib.Core.Path.{_≡_, refl}
+use Prim.Native.Nat.{_-_, _≤_}
+use native.Mathlib.Omega.{arith}
+use lib.ListN.{length, take}
+use borrow.Author.Needs.{needs}
+use Rattle.bank.specs.Limits.{ROWS}
+use Rattle.matrix.proofs.Filled.{filled, filled-all, filled-next, product-row, product-rows}
+use Rattle.algebra.specs.Matrix.{product}
 use Rattle.matrix.proofs.rows.product.Statement.{statement}
 use Rattle.matrix.proofs.rows.product.Tie as tie
 use Rattle.matrix.proofs.rows.product.Reads as reads
@@ -5,50 +14,56 @@ use Rattle.matrix.proofs.rows.product.Lts as lts
 use Rattle.matrix.proofs.vector.sum.Reads as sum-reads
 
 abbrev Inv-loop : tie.InvT-loop
-Inv-loop a b n rows₀ i₀ rows i = ?
+Inv-loop a b n rows₀ i₀ rows i = (i ≤ n) × (rows ≡ filled ROWS (product (take n a) (take n b)) i)
 
 abbrev μ-loop : tie.MeasureT-loop
-μ-loop a b n rows₀ i₀ rows i = ?
+μ-loop a b n rows₀ i₀ rows i = n - i
 
--- src/rows.rt:56:5
 loop-holds : tie.Need-loop-holds Inv-loop μ-loop
-loop-holds c = ?
+loop-holds c = (search needs, refl)
 
--- src/rows.rt:57:29
 mul-sum : tie.Need-mul-sum Inv-loop μ-loop
-mul-sum c = ?
+mul-sum c = search needs
 
--- src/rows.rt:57:29
 element-copy-out-sum : tie.Need-element-copy-out-sum Inv-loop μ-loop
-element-copy-out-sum c = ?
+element-copy-out-sum c = search needs
 
--- src/rows.rt:57:19
 sum-requires : tie.Need-sum-requires Inv-loop μ-loop
-sum-requires c κs = ?
+sum-requires c κs = search needs
 
--- src/rows.rt:57:9
 mul-rows : tie.Need-mul-rows Inv-loop μ-loop
-mul-rows c = ?
+mul-rows c = search needs
 
--- src/rows.rt:57:9
 array-write-rows : tie.Need-array-write-rows Inv-loop μ-loop
-array-write-rows c = ?
+array-write-rows c = search needs
 
--- src/rows.rt:58:9
 add-i : tie.Need-add-i Inv-loop μ-loop
-add-i c = ?
+add-i c = search needs
 
--- src/rows.rt:56:5
 loop-less : tie.Need-loop-less Inv-loop μ-loop
-loop-less c = ?
+loop-less c = search needs
 
--- src/rows.rt:56:5
 loop-again : tie.Need-loop-again Inv-loop μ-loop
-loop-again c = ?
+loop-again c =
+    let s = c .before .before .before .before in
+    let a = s .args .a .now in
+    let b = s .args .b .now in
+    let n = s .args .n in
+    let l = c .before .before .before .loop in
+    let long : length (product (take n a) (take n b)) ≡ n = product-rows n a b (search needs) in (
+      search needs,
+      filled-next ROWS (product (take n a) (take n b)) (omega arith) (l .i) (c .sum .result) (l .rows) (omega arith) (l .inv .1) (cc (product-row n a b (l .i) (search needs) (search needs))),
+    )
 
--- src/rows.rt:50:1
 returns : tie.Need-returns Inv-loop μ-loop
-returns c = ?
+returns c =
+    let s = c .before .before in
+    let a = s .args .a .now in
+    let b = s .args .b .now in
+    let n = s .args .n in
+    let l = c .before .loop in
+    let long : length (product (take n a) (take n b)) ≡ n = product-rows n a b (search needs) in
+    filled-all ROWS (product (take n a) (take n b)) (omega arith) n (l .i) (l .rows) long (omega arith) (l .inv .1)
 
 pub product-spec : {M : Type 1} → statement M
 product-spec =
