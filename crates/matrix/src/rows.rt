@@ -51,10 +51,11 @@ pub fn product(a: &[u32; ROWS], b: &[u32; ROWS], n: usize) -> [u32; ROWS]
     requires { ⌜ n ≤ ROWS ⌝ }
     ensures { λ r. ⌜ r ≡ product (take n (now (a .entry))) (take n (now (b .entry))) ++ replicate (ROWS - n) 0 ⌝ }
 {
+    let picks = *a;
     let mut rows = [0u32; ROWS];
     let mut i = 0;
     while i < n {
-        rows[i] = sum(b, n, a[i]);
+        rows[i] = sum(b, n, picks[i]);
         i += 1;
     }
     rows

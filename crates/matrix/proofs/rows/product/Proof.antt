@@ -14,10 +14,10 @@ use Rattle.matrix.proofs.rows.product.Lts as lts
 use Rattle.matrix.proofs.vector.sum.Reads as sum-reads
 
 abbrev Inv-loop : tie.InvT-loop
-Inv-loop a b n rows₀ i₀ rows i = (i ≤ n) × (rows ≡ filled ROWS (product (take n a) (take n b)) i)
+Inv-loop a b n picks rows₀ i₀ rows i = (i ≤ n) × (rows ≡ filled ROWS (product (take n a) (take n b)) i)
 
 abbrev μ-loop : tie.MeasureT-loop
-μ-loop a b n rows₀ i₀ rows i = n - i
+μ-loop a b n picks rows₀ i₀ rows i = n - i
 
 loop-holds : tie.Need-loop-holds Inv-loop μ-loop
 loop-holds c = (search needs, refl)
@@ -25,8 +25,8 @@ loop-holds c = (search needs, refl)
 mul-sum : tie.Need-mul-sum Inv-loop μ-loop
 mul-sum c = search needs
 
-element-copy-out-sum : tie.Need-element-copy-out-sum Inv-loop μ-loop
-element-copy-out-sum c = search needs
+array-read-sum : tie.Need-array-read-sum Inv-loop μ-loop
+array-read-sum c = search needs
 
 sum-requires : tie.Need-sum-requires Inv-loop μ-loop
 sum-requires c κs = search needs
@@ -49,20 +49,20 @@ loop-again c =
     let a = s .args .a .now in
     let b = s .args .b .now in
     let n = s .args .n in
-    let l = c .before .before .before .loop in
-    let long : length (product (take n a) (take n b)) ≡ n = product-rows n a b (search needs) in (
+    let l = c .before .before .loop in
+    let long : length (product (take n a) (take n b)) ≡ n = product-rows n a b (omega arith) in (
       search needs,
-      filled-next ROWS (product (take n a) (take n b)) (omega arith) (l .i) (c .sum .result) (l .rows) (omega arith) (l .inv .1) (cc (product-row n a b (l .i) (search needs) (search needs))),
+      filled-next ROWS (product (take n a) (take n b)) (omega arith) (l .i) (c .sum .result) (l .rows) (omega arith) (l .inv .1) (cc (product-row n a b (omega arith) (l .i) (search needs))),
     )
 
 returns : tie.Need-returns Inv-loop μ-loop
 returns c =
-    let s = c .before .before in
+    let s = c .before .before .before in
     let a = s .args .a .now in
     let b = s .args .b .now in
     let n = s .args .n in
     let l = c .before .loop in
-    let long : length (product (take n a) (take n b)) ≡ n = product-rows n a b (search needs) in
+    let long : length (product (take n a) (take n b)) ≡ n = product-rows n a b (omega arith) in
     filled-all ROWS (product (take n a) (take n b)) (omega arith) n (l .i) (l .rows) long (omega arith) (l .inv .1)
 
 pub product-spec : {M : Type 1} → statement M
@@ -73,7 +73,7 @@ product-spec =
     μ-loop
     loop-holds
     mul-sum
-    element-copy-out-sum
+    array-read-sum
     sum-requires
     mul-rows
     array-write-rows
