@@ -46,19 +46,27 @@ pub fn columns(rows: &[u32; ROWS], from: usize, to: usize, n: usize) -> [u32; RO
     cols
 }
 
+// The sums of the first n vectors that the first n picks ask for; the places after them hold zero.
+fn sums(picks: [u32; ROWS], vectors: &[u32; ROWS], n: usize) -> [u32; ROWS]
+    requires { ⌜ n ≤ ROWS ⌝ }
+    ensures { λ r. ⌜ r ≡ product (take n picks) (take n (now (vectors .entry))) ++ replicate (ROWS - n) 0 ⌝ }
+{
+    let mut rows = [0u32; ROWS];
+    let mut i = 0;
+    while i < n {
+        rows[i] = sum(vectors, n, picks[i]);
+        i += 1;
+    }
+    rows
+}
+
 // The product of two matrices of n rows; the places after the rows hold zero.
 pub fn product(a: &[u32; ROWS], b: &[u32; ROWS], n: usize) -> [u32; ROWS]
     requires { ⌜ n ≤ ROWS ⌝ }
     ensures { λ r. ⌜ r ≡ product (take n (now (a .entry))) (take n (now (b .entry))) ++ replicate (ROWS - n) 0 ⌝ }
 {
     let picks = *a;
-    let mut rows = [0u32; ROWS];
-    let mut i = 0;
-    while i < n {
-        rows[i] = sum(b, n, picks[i]);
-        i += 1;
-    }
-    rows
+    sums(picks, b, n)
 }
 
 // The identity of n rows; the places after them hold zero.

@@ -1,4 +1,4 @@
--- `matrix::rows::product` meets its contract. The loop's invariant: the first i rows are in place. Assumes nothing.
+-- `matrix::rows::sums` meets its contract. The loop's invariant: the first i sums are in place. Assumes nothing.
 use mathlib.Core.Path.{_≡_, refl}
 use Prim.Native.Nat.{_-_, _≤_}
 use native.Mathlib.Omega.{arith}
@@ -7,17 +7,17 @@ use borrow.Author.Needs.{needs}
 use Rattle.bank.specs.Limits.{ROWS}
 use Rattle.matrix.proofs.Filled.{filled, filled-all, filled-next, product-row, product-rows}
 use Rattle.algebra.specs.Matrix.{product}
-use Rattle.matrix.proofs.rows.product.Statement.{statement}
-use Rattle.matrix.proofs.rows.product.Tie as tie
-use Rattle.matrix.proofs.rows.product.Reads as reads
-use Rattle.matrix.proofs.rows.product.Lts as lts
+use Rattle.matrix.proofs.rows.sums.Statement.{statement}
+use Rattle.matrix.proofs.rows.sums.Tie as tie
+use Rattle.matrix.proofs.rows.sums.Reads as reads
+use Rattle.matrix.proofs.rows.sums.Lts as lts
 use Rattle.matrix.proofs.vector.sum.Reads as sum-reads
 
 abbrev Inv-loop : tie.InvT-loop
-Inv-loop a b n picks rows₀ i₀ rows i = (i ≤ n) × (rows ≡ filled ROWS (product (take n a) (take n b)) i)
+Inv-loop vectors n picks rows₀ i₀ rows i = (i ≤ n) × (rows ≡ filled ROWS (product (take n picks) (take n vectors)) i)
 
 abbrev μ-loop : tie.MeasureT-loop
-μ-loop a b n picks rows₀ i₀ rows i = n - i
+μ-loop vectors n picks rows₀ i₀ rows i = n - i
 
 loop-holds : tie.Need-loop-holds Inv-loop μ-loop
 loop-holds c = (search needs, refl)
@@ -45,9 +45,9 @@ loop-less c = search needs
 
 loop-again : tie.Need-loop-again Inv-loop μ-loop
 loop-again c =
-    let s = c .before .before .before .before in
-    let a = s .args .a .now in
-    let b = s .args .b .now in
+    let s = c .before .before .before in
+    let a = s .args .t1 in
+    let b = s .args .vectors .now in
     let n = s .args .n in
     let l = c .before .before .loop in
     let long : length (product (take n a) (take n b)) ≡ n = product-rows n a b (omega arith) in (
@@ -57,16 +57,16 @@ loop-again c =
 
 returns : tie.Need-returns Inv-loop μ-loop
 returns c =
-    let s = c .before .before .before in
-    let a = s .args .a .now in
-    let b = s .args .b .now in
+    let s = c .before .before in
+    let a = s .args .t1 in
+    let b = s .args .vectors .now in
     let n = s .args .n in
     let l = c .before .loop in
     let long : length (product (take n a) (take n b)) ≡ n = product-rows n a b (omega arith) in
     filled-all ROWS (product (take n a) (take n b)) (omega arith) n (l .i) (l .rows) long (omega arith) (l .inv .1)
 
-pub product-spec : {M : Type 1} → statement M
-product-spec =
+pub sums-spec : {M : Type 1} → statement M
+sums-spec =
     tie.close
     (tie.spec
     Inv-loop
