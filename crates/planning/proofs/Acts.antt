@@ -29,30 +29,36 @@ unfolding after
 comb-after a q x = sym (linear-comb (comb a) (comb-linear a) q x)
 
 -- ---- lists made column by column
-pub each-units : (n k : ℕ) → listed (λ j. 2 ^ j) n k ≡ units n k
+pub listed-units : (n k : ℕ) → listed (λ j. 2 ^ j) n k ≡ units n k
 unfolding listed units
-each-units zero k = refl
-each-units (suc n) k = ap (λ (l : List ℕ). 2 ^ k ∷ l) (each-units n (suc k))
+listed-units zero k = refl
+listed-units (suc n) k = ap (λ (l : List ℕ). 2 ^ k ∷ l) (listed-units n (suc k))
 
-pub each-xor : (f g : ℕ → ℕ) (n k x : ℕ) → comb (listed (λ j. bitXor (f j) (g j)) n k) x ≡ bitXor (comb (listed f n k) x) (comb (listed g n k) x)
+pub listed-xor : (f g : ℕ → ℕ) (n k x : ℕ) → comb (listed (λ j. bitXor (f j) (g j)) n k) x ≡ bitXor (comb (listed f n k) x) (comb (listed g n k) x)
 unfolding listed comb
-each-xor f g zero k x = refl
-each-xor f g (suc n) k x =
-    ap₂ bitXor (times-xor (x % 2) (f k) (g k)) (each-xor f g n (suc k) (x / 2))
+listed-xor f g zero k x = refl
+listed-xor f g (suc n) k x =
+    ap₂ bitXor (times-xor (x % 2) (f k) (g k)) (listed-xor f g n (suc k) (x / 2))
     ∙ xor4 (times (x % 2) (f k)) (times (x % 2) (g k)) (comb (listed f n (suc k)) (x / 2)) (comb (listed g n (suc k)) (x / 2))
 
-pub each-lt : (g : ℕ → ℕ) (w n k x : ℕ) → ((j : ℕ) → j < k + n → g j < 2 ^ w) → comb (listed g n k) x < 2 ^ w
+pub listed-lt : (g : ℕ → ℕ) (w n k x : ℕ) → ((j : ℕ) → j < k + n → g j < 2 ^ w) → comb (listed g n k) x < 2 ^ w
 unfolding listed comb
-each-lt g w zero k x h = pow-pos w
-each-lt g w (suc n) k x h =
+listed-lt g w zero k x h = pow-pos w
+listed-lt g w (suc n) k x h =
     xor-lt w (times (x % 2) (g k)) (comb (listed g n (suc k)) (x / 2)) (times-lt w (x % 2) (g k) (h k (omega arith)))
-    (each-lt g w n (suc k) (x / 2) (λ j l. h j (omega arith)))
+    (listed-lt g w n (suc k) (x / 2) (λ j l. h j (omega arith)))
 
-pub each-at : (g : ℕ → ℕ) (n k i : ℕ) → i < n → getD (listed g n k) i 0 ≡ g (k + i)
-unfolding listed
-each-at g zero k i h = absurd (not-suc-le-zero h)
-each-at g (suc n) k zero h = ap g (sym (add-zero k))
-each-at g (suc n) k (suc i) h = each-at g n (suc k) i (le-of-suc-le-suc h) ∙ ap g (omega arith)
+module _ {A : Type 0} where
+  pub listed-length : (f : ℕ → A) (k j : ℕ) → length (listed f k j) ≡ k
+  unfolding listed
+  listed-length f zero j = refl
+  listed-length f (suc k) j = ap suc (listed-length f k (suc j))
+
+  pub listed-at : (d : A) (f : ℕ → A) (n k i : ℕ) → i < n → getD (listed f n k) i d ≡ f (k + i)
+  unfolding listed
+  listed-at d f zero k i h = absurd (not-suc-le-zero h)
+  listed-at d f (suc n) k zero h = ap f (sym (add-zero k))
+  listed-at d f (suc n) k (suc i) h = listed-at d f n (suc k) i (le-of-suc-le-suc h) ∙ ap f (omega arith)
 
 -- a sum whose every term is zero
 pub terms-zero : (g : ℕ → ℕ) (n k y : ℕ) → ((i : ℕ) → times (bit y i) (g i) ≡ 0) → comb (listed g n k) (y / 2 ^ k) ≡ 0
@@ -73,7 +79,7 @@ module _ (g : ℕ → ℕ) (n : ℕ) (small : (j : ℕ) → j < n → g j < 2 ^ 
 
   pub adding-is : (x : ℕ) → x < 2 ^ n → comb (adding g n) x ≡ bitXor x (G x)
   unfolding adding identity
-  adding-is x h = each-xor (λ j. 2 ^ j) g n 0 x ∙ ap (λ (u : ℕ). bitXor u (G x)) (ap (λ (l : List ℕ). comb l x) (each-units n 0) ∙ comb-identity n x h)
+  adding-is x h = listed-xor (λ j. 2 ^ j) g n 0 x ∙ ap (λ (u : ℕ). bitXor u (G x)) (ap (λ (l : List ℕ). comb l x) (listed-units n 0) ∙ comb-identity n x h)
 
   pub twice-zero : (x : ℕ) → G (G x) ≡ 0
   twice-zero x =
@@ -81,7 +87,7 @@ module _ (g : ℕ → ℕ) (n : ℕ) (small : (j : ℕ) → j < n → g j < 2 ^ 
       ∙ map-zero G g n 0 x (λ j. ap (comb (listed g n 0)) (sym (div-one (g j))) ∙ terms-zero g n 0 (g j) (nil j))
 
   pub adding-lt : (x : ℕ) → x < 2 ^ n → comb (adding g n) x < 2 ^ n
-  adding-lt x h = subst (λ (u : ℕ). u < 2 ^ n) (sym (adding-is x h)) (xor-lt n x (G x) h (each-lt g n n 0 x (λ j l. small j (omega arith))))
+  adding-lt x h = subst (λ (u : ℕ). u < 2 ^ n) (sym (adding-is x h)) (xor-lt n x (G x) h (listed-lt g n n 0 x (λ j l. small j (omega arith))))
 
   pub adding-twice : (x : ℕ) → x < 2 ^ n → comb (adding g n) (comb (adding g n) x) ≡ x
   adding-twice x h =
@@ -103,10 +109,10 @@ linear-ext f g lf lg (suc n) h x l =
 -- ---- a swap of columns undoes itself
 module _ (σ : ℕ → ℕ) (n : ℕ) (stays : (j : ℕ) → j < n → σ j < n) (back : (j : ℕ) → σ (σ j) ≡ j) where
   pub at-unit : (j : ℕ) → j < n → comb (listed (λ j. 2 ^ σ j) n 0) (2 ^ j) ≡ 2 ^ σ j
-  at-unit j h = comb-one (listed (λ j. 2 ^ σ j) n 0) j ∙ each-at (λ j. 2 ^ σ j) n 0 j h ∙ ap (λ (k : ℕ). 2 ^ σ k) (omega arith)
+  at-unit j h = comb-one (listed (λ j. 2 ^ σ j) n 0) j ∙ listed-at 0 (λ j. 2 ^ σ j) n 0 j h ∙ ap (λ (k : ℕ). 2 ^ σ k) (omega arith)
 
   pub swap-lt : (x : ℕ) → comb (listed (λ j. 2 ^ σ j) n 0) x < 2 ^ n
-  swap-lt x = each-lt (λ j. 2 ^ σ j) n n 0 x (λ j l. pow-lt (stays j (omega arith)))
+  swap-lt x = listed-lt (λ j. 2 ^ σ j) n n 0 x (λ j l. pow-lt (stays j (omega arith)))
 
   pub swap-twice : (x : ℕ) → x < 2 ^ n → comb (listed (λ j. 2 ^ σ j) n 0) (comb (listed (λ j. 2 ^ σ j) n 0) x) ≡ x
   swap-twice =
@@ -119,9 +125,10 @@ module _ (σ : ℕ → ℕ) (n : ℕ) (stays : (j : ℕ) → j < n → σ j < n)
       (λ j h. ap (comb (listed (λ j. 2 ^ σ j) n 0)) (at-unit j h) ∙ at-unit (σ j) (stays j h) ∙ ap (λ (k : ℕ). 2 ^ k) (back j))
 
 -- ---- lists of places
-abbrev pub All : (ℕ → Type 0) → List ℕ → Type 0
-All P [] = Unit {0}
-All P (x ∷ xs) = P x × All P xs
+module _ {A : Type 0} where
+  abbrev pub All : (A → Type 0) → List A → Type 0
+  All P [] = Unit {0}
+  All P (x ∷ xs) = P x × All P xs
 
 abbrev pub Asc : List ℕ → Type 0
 Asc [] = Unit {0}
@@ -242,20 +249,15 @@ module _ (g : ℕ → ℕ) (n : ℕ) where
   pub adding-at : (j : ℕ) → j < n → comb (adding g n) (2 ^ j) ≡ bitXor (2 ^ j) (g j)
   unfolding adding
   adding-at j h =
-      comb-one (listed (λ j. bitXor (2 ^ j) (g j)) n 0) j ∙ each-at (λ j. bitXor (2 ^ j) (g j)) n 0 j h ∙ ap (λ (k : ℕ). bitXor (2 ^ k) (g k)) (zero-add j)
+      comb-one (listed (λ j. bitXor (2 ^ j) (g j)) n 0) j ∙ listed-at 0 (λ j. bitXor (2 ^ j) (g j)) n 0 j h ∙ ap (λ (k : ℕ). bitXor (2 ^ k) (g k)) (zero-add j)
 
   -- what is added to none of the columns that x picks leaves x
   pub sum-none : (x : ℕ) → ((i : ℕ) → times (bit x i) (g i) ≡ 0) → comb (listed g n 0) x ≡ 0
   sum-none x h = ap (comb (listed g n 0)) (sym (div-one x)) ∙ terms-zero g n 0 x h
 
-pub moving-at : (σ : ℕ → ℕ) (n j : ℕ) → j < n → comb (placing σ n) (2 ^ j) ≡ 2 ^ σ j
+pub placing-at : (σ : ℕ → ℕ) (n j : ℕ) → j < n → comb (placing σ n) (2 ^ j) ≡ 2 ^ σ j
 unfolding placing
-moving-at σ n j h = comb-one (listed (λ j. 2 ^ σ j) n 0) j ∙ each-at (λ j. 2 ^ σ j) n 0 j h ∙ ap (λ (k : ℕ). 2 ^ σ k) (zero-add j)
-
-pub each-length : (f : ℕ → ℕ) (k j : ℕ) → length (listed f k j) ≡ k
-unfolding listed
-each-length f zero j = refl
-each-length f (suc k) j = ap suc (each-length f k (suc j))
+placing-at σ n j h = comb-one (listed (λ j. 2 ^ σ j) n 0) j ∙ listed-at 0 (λ j. 2 ^ σ j) n 0 j h ∙ ap (λ (k : ℕ). 2 ^ σ k) (zero-add j)
 
 pub linear-after : (f g : ℕ → ℕ) → Linear f → Linear g → Linear (λ x. f (g x))
 linear-after f g lf lg = record { none = ap f (lg .none) ∙ lf .none; sum = λ x y. ap f (lg .sum x y) ∙ lf .sum (g x) (g y) }
@@ -263,7 +265,7 @@ linear-after f g lf lg = record { none = ap f (lg .none) ∙ lf .none; sum = λ 
 pub linear-self : Linear (λ x. x)
 linear-self = record { none = refl; sum = λ x y. refl }
 
--- ---- lists of places: what listed of them passes
+-- ---- lists of places: what each of them passes
 pub which-holds : (p : ℕ → Bool) (k j : ℕ) → All (λ x. p x ≡ true) (which p k j)
 unfolding which
 which-holds p zero j = tt

@@ -20,16 +20,15 @@ use Rattle.algebra.proofs.Spill.{spill-witness}
 use Rattle.algebra.specs.Matrix.{apply, columns, marked, rank, singular, spills, target}
 use Rattle.algebra.specs.Search.{which}
 use Rattle.algebra.specs.Vector.{comb, times}
-use Rattle.planning.proofs.Acts.{linear-after}
+use Rattle.planning.proofs.Acts.{All, linear-after}
 use Rattle.planning.proofs.Dimension.{powers, rank-which, span-le, spread, spread-all, spread-inj, spread-lt, spread-only, times-none}
 use Rattle.planning.proofs.Marks.{marks-one, marks-span}
 use Rattle.planning.proofs.Parts.{comb-take, lower-linear, parts-xor, phi-comb}
 use Rattle.planning.proofs.Round.{shl-linear}
-use Rattle.planning.proofs.Rounds.{AllP}
 use Rattle.planning.proofs.Run.{plan-length}
 use Rattle.planning.specs.Columns.{phi}
 use Rattle.planning.specs.Making.{dividedUp, passMatrices}
-use Rattle.planning.specs.Pass.{performed}
+use Rattle.planning.specs.Pass.{Pass, performed}
 
 -- x is a sum of the listed vectors
 abbrev pub Within : List ℕ → ℕ → Type 0
@@ -111,54 +110,47 @@ module _ (b m : ℕ) (p : List ℕ) (dry : spills b m p ≡ false) where
       is-spread w = unfold Rattle.planning.proofs.Dimension.spread in refl
 
 -- ---- passes one after the other
-pub carried : List (List ℕ) → ℕ → ℕ
+pub carried : List Pass → ℕ → ℕ
 carried [] x = x
-carried (p ∷ ps) x = carried ps (apply p x)
+carried (p ∷ ps) x = carried ps (apply (p .rows) x)
 
-carried-xor : (ps : List (List ℕ)) (x y : ℕ) → carried ps (bitXor x y) ≡ bitXor (carried ps x) (carried ps y)
+carried-xor : (ps : List Pass) (x y : ℕ) → carried ps (bitXor x y) ≡ bitXor (carried ps x) (carried ps y)
 unfolding carried
 carried-xor [] x y = refl
-carried-xor (p ∷ ps) x y = ap (carried ps) (apply-xor p x y) ∙ carried-xor ps (apply p x) (apply p y)
+carried-xor (p ∷ ps) x y = ap (carried ps) (apply-xor (p .rows) x y) ∙ carried-xor ps (apply (p .rows) x) (apply (p .rows) y)
 
-carried-zero : (ps : List (List ℕ)) → carried ps 0 ≡ 0
+carried-zero : (ps : List Pass) → carried ps 0 ≡ 0
 unfolding carried
 carried-zero [] = refl
-carried-zero (p ∷ ps) = ap (carried ps) (apply-zero p) ∙ carried-zero ps
+carried-zero (p ∷ ps) = ap (carried ps) (apply-zero (p .rows)) ∙ carried-zero ps
 
-carried-linear : (ps : List (List ℕ)) → Linear (carried ps)
+carried-linear : (ps : List Pass) → Linear (carried ps)
 carried-linear ps = record { none = carried-zero ps; sum = carried-xor ps }
 
 -- complements only add what they make of 0
-pub performed-is : (ps : List (List ℕ)) (cs : List ℕ) (x : ℕ) → performed ps cs x ≡ bitXor (carried ps x) (performed ps cs 0)
+pub performed-is : (ps : List Pass) (x : ℕ) → performed ps x ≡ bitXor (carried ps x) (performed ps 0)
 unfolding performed carried target
-performed-is [] cs x = sym (xor-zero-r x)
-performed-is (p ∷ ps) [] x = step (p) [] 0 (performed-is ps [])
-  where
-    step : (p : List ℕ) (cs : List ℕ) (c : ℕ) → ((y : ℕ) → performed ps cs y ≡ bitXor (carried ps y) (performed ps cs 0)) → performed ps cs (bitXor (apply p x) c) ≡ bitXor (carried ps (apply p x)) (performed ps cs (bitXor (apply p 0) c))
-    step p cs c ih =
-        ih (bitXor (apply p x) c) ∙ ap (λ (k : ℕ). bitXor k (performed ps cs 0)) (carried-xor ps (apply p x) c) ∙ xor-assoc (carried ps (apply p x)) (carried ps c) (performed ps cs 0)
-        ∙ ap (bitXor (carried ps (apply p x))) (sym (ap (λ (k : ℕ). performed ps cs (bitXor k c)) (apply-zero p) ∙ ih c))
-performed-is (p ∷ ps) (d ∷ cs) x = step (p) cs d (performed-is ps cs)
-  where
-    step : (p : List ℕ) (cs : List ℕ) (c : ℕ) → ((y : ℕ) → performed ps cs y ≡ bitXor (carried ps y) (performed ps cs 0)) → performed ps cs (bitXor (apply p x) c) ≡ bitXor (carried ps (apply p x)) (performed ps cs (bitXor (apply p 0) c))
-    step p cs c ih =
-        ih (bitXor (apply p x) c) ∙ ap (λ (k : ℕ). bitXor k (performed ps cs 0)) (carried-xor ps (apply p x) c) ∙ xor-assoc (carried ps (apply p x)) (carried ps c) (performed ps cs 0)
-        ∙ ap (bitXor (carried ps (apply p x))) (sym (ap (λ (k : ℕ). performed ps cs (bitXor k c)) (apply-zero p) ∙ ih c))
+performed-is [] x = sym (xor-zero-r x)
+performed-is (p ∷ ps) x =
+    let y = apply (p .rows) x in
+    let c = p .complement in
+    performed-is ps (bitXor y c) ∙ ap (λ (k : ℕ). bitXor k (performed ps 0)) (carried-xor ps y c) ∙ xor-assoc (carried ps y) (carried ps c) (performed ps 0)
+    ∙ ap (bitXor (carried ps y)) (sym (ap (λ (k : ℕ). performed ps (bitXor k c)) (apply-zero (p .rows)) ∙ performed-is ps c))
 
 -- the lower part of what k passes make of numbers below 2 ^ m is spanned by (m - b) * k vectors
-pub passes-span : (b m : ℕ) (ps : List (List ℕ)) → AllP (λ p. spills b m p ≡ false) ps
+pub passes-span : (b m : ℕ) (ps : List Pass) → All (λ p. spills b m (p .rows) ≡ false) ps
     → (vs : List ℕ) × (length vs ≤ (m - b) * length ps) × ((z : ℕ) → z < 2 ^ m → Within vs (carried ps z / 2 ^ m))
 unfolding carried comb
 passes-span b m [] d = ([], omega arith, λ z h. (0, pow-pos 0, sym (native.Mathlib.Nat.div-eq-of-lt h)))
 passes-span b m (p ∷ ps) d =
     let ih = passes-span b m ps (d .1) in
-    let us = vectors b m p (d .0) in
+    let us = vectors b m (p .rows) (d .0) in
     let h : ℕ → ℕ = λ v. carried ps (v * 2 ^ m) / 2 ^ m in (
       map h us ++ ih .0,
-      omega (arith, length-append (map h us) (ih .0), length-map us h, vectors-few b m p (d .0), ih .1, mul-suc (m - b) (length ps)),
+      omega (arith, length-append (map h us) (ih .0), length-map us h, vectors-few b m (p .rows) (d .0), ih .1, mul-suc (m - b) (length ps)),
       λ z l.
-          let y = apply p z in
-          let s = vectors-span b m p (d .0) z l in
+          let y = apply (p .rows) z in
+          let s = vectors-span b m (p .rows) (d .0) z l in
           subst (Within (map h us ++ ih .0)) (sym (low-high y))
           (within-xor (map h us ++ ih .0) (carried ps (y % 2 ^ m) / 2 ^ m) (carried ps (y / 2 ^ m * 2 ^ m) / 2 ^ m)
           (within-second (map h us) (ih .0) (carried ps (y % 2 ^ m) / 2 ^ m) (ih .2 (y % 2 ^ m) (mod-lt y (pow-pos m))))
@@ -172,15 +164,15 @@ passes-span b m (p ∷ ps) d =
     low-high : (y : ℕ) → carried ps y / 2 ^ m ≡ bitXor (carried ps (y % 2 ^ m) / 2 ^ m) (carried ps (y / 2 ^ m * 2 ^ m) / 2 ^ m)
     low-high y = ap (λ (k : ℕ). carried ps k / 2 ^ m) (sym (parts-xor m y)) ∙ ap (λ (k : ℕ). k / 2 ^ m) (carried-xor ps (y % 2 ^ m) (y / 2 ^ m * 2 ^ m)) ∙ xor-shr (carried ps (y % 2 ^ m)) (carried ps (y / 2 ^ m * 2 ^ m)) m
 
--- ---- the bound, for any passes that do not spill and take every x to A x xor c
-module _ (n b m : ℕ) (hb : b < m) (hm : m ≤ n) (rows : List ℕ) (c : ℕ) (ps : List (List ℕ)) (cs : List ℕ)
-    (dry : AllP (λ p. spills b m p ≡ false) ps) (moves : (x : ℕ) → x < 2 ^ n → performed ps cs x ≡ target rows c x) where
+-- ---- the bound, for any passes that do not spill and take every x to Ax xor c
+module _ (n b m : ℕ) (hb : b < m) (hm : m ≤ n) (rows : List ℕ) (c : ℕ) (ps : List Pass)
+    (dry : All (λ p. spills b m (p .rows) ≡ false) ps) (moves : (x : ℕ) → x < 2 ^ n → performed ps x ≡ target rows c x) where
   -- without complements they make A
   pub carried-is : (x : ℕ) → x < 2 ^ n → carried ps x ≡ apply rows x
   unfolding target
   carried-is x h =
-      let k : performed ps cs 0 ≡ c = moves 0 (pow-pos n) ∙ ap (λ (u : ℕ). bitXor u c) (apply-zero rows) in
-      sym (xor-cancel-r (carried ps x) c) ∙ ap (λ (u : ℕ). bitXor u c) (sym (performed-is ps cs x ∙ ap (bitXor (carried ps x)) k) ∙ moves x h) ∙ xor-cancel-r (apply rows x) c
+      let k : performed ps 0 ≡ c = moves 0 (pow-pos n) ∙ ap (λ (u : ℕ). bitXor u c) (apply-zero rows) in
+      sym (xor-cancel-r (carried ps x) c) ∙ ap (λ (u : ℕ). bitXor u c) (sym (performed-is ps x ∙ ap (bitXor (carried ps x)) k) ∙ moves x h) ∙ xor-cancel-r (apply rows x) c
 
   pub rank-bound : rank (phi m (columns n rows)) m ≤ (m - b) * length ps
   rank-bound =

@@ -15,15 +15,14 @@ use lib.Bits.{bitXor}
 use borrow.Author.Tests.{eq-eqb, eqb-false, ne-eqb}
 use Rattle.algebra.proofs.Basis.{rest→marked, solved-zero, spanned, used-below}
 use Rattle.algebra.proofs.Built.{Built, built-is}
-use Rattle.algebra.proofs.Digits.{bit-zero, times-zero}
+use Rattle.algebra.proofs.Digits.{bit-times, bit-zero, times-zero}
 use Rattle.algebra.proofs.Linear.{comb-one, comb-xor, comb-zero}
 use Rattle.algebra.proofs.Search.{below-suc, none-intro, some-intro}
 use Rattle.algebra.specs.Elimination.{Echelon, built, choose, grown, rest, used, withEntry}
 use Rattle.algebra.specs.Matrix.{marked}
 use Rattle.algebra.specs.Search.{listed}
 use Rattle.algebra.specs.Vector.{bit, comb, times}
-use Rattle.planning.proofs.Acts.{adding-at, comb-after, each-at, moving-at}
-use Rattle.planning.proofs.Dimension.{bit-times}
+use Rattle.planning.proofs.Acts.{adding-at, comb-after, listed-at, placing-at}
 use Rattle.planning.proofs.Marks.{Only, bit-pow-other, only-xor}
 use Rattle.planning.proofs.Parts.{comb-drop, comb-take, parts-xor}
 use Rattle.planning.proofs.Round.{eraser-one, eraser-right}
@@ -82,12 +81,12 @@ used-only p n ws qs ts (suc k) v h =
     only-xor p n (used ws qs ts k v) (times (bit (rest ws qs k v) (getD qs k 0)) (getD ts k 0)) (used-only p n ws qs ts k v (λ i l. h i (le-trans l (le-suc k))))
     (only-times p n (bit (rest ws qs k v) (getD qs k 0)) (getD ts k 0) (h k (le-refl (suc k))))
 
-pub tags-only : (cols : List ℕ) (w : ℕ) → w ≤ 32 → ((i : ℕ) → getD cols i 0 < 2 ^ w) → (n j : ℕ) → j ≤ 24 → (i : ℕ) → i < built cols j .count → Only (marked cols) n (getD (built cols j .tags) i 0)
+pub tags-only : (room : ℕ) (cols : List ℕ) (w : ℕ) → w ≤ 32 → ((i : ℕ) → getD cols i 0 < 2 ^ w) → (n j : ℕ) → j ≤ room → (i : ℕ) → i < built room cols j .count → Only (marked cols) n (getD (built room cols j .tags) i 0)
 unfolding built
-tags-only cols w hw hc n zero hj = λ i h. absurd (native.Mathlib.Nat.not-suc-le-zero h)
-tags-only cols w hw hc n (suc j) hj = step (built cols j) (built-is cols w hw hc j (omega arith)) (tags-only cols w hw hc n j (omega arith))
+tags-only room cols w hw hc n zero hj = λ i h. absurd (native.Mathlib.Nat.not-suc-le-zero h)
+tags-only room cols w hw hc n (suc j) hj = step (built room cols j) (built-is room cols w hw hc j (omega arith)) (tags-only room cols w hw hc n j (omega arith))
   where
-    step : (e : Echelon) → Built cols w j e → ((i : ℕ) → i < e .count → Only (marked cols) n (getD (e .tags) i 0)) → (i : ℕ) → i < grown e j (getD cols j 0) .k → Only (marked cols) n (getD (grown e j (getD cols j 0) .ts) i 0)
+    step : (e : Echelon) → Built room cols w j e → ((i : ℕ) → i < e .count → Only (marked cols) n (getD (e .tags) i 0)) → (i : ℕ) → i < grown e j (getD cols j 0) .count → Only (marked cols) n (getD (grown e j (getD cols j 0) .tags) i 0)
     step e b ih = unfold grown in go (eqb (rest (e .vectors) (e .pivots) (e .count) (getD cols j 0)) 0) refl
       where
         r : ℕ
@@ -97,8 +96,8 @@ tags-only cols w hw hc n (suc j) hj = step (built cols j) (built-is cols w hw hc
         t = bitXor (2 ^ j) (used (e .vectors) (e .pivots) (e .tags) (e .count) (getD cols j 0))
 
         go : (x : Bool) → eqb (rest (e .vectors) (e .pivots) (e .count) (getD cols j 0)) 0 ≡ x
-            → (i : ℕ) → i < choose x e (withEntry e (rest (e .vectors) (e .pivots) (e .count) (getD cols j 0)) (bitXor (2 ^ j) (used (e .vectors) (e .pivots) (e .tags) (e .count) (getD cols j 0)))) .k
-            → Only (marked cols) n (getD (choose x e (withEntry e (rest (e .vectors) (e .pivots) (e .count) (getD cols j 0)) (bitXor (2 ^ j) (used (e .vectors) (e .pivots) (e .tags) (e .count) (getD cols j 0)))) .ts) i 0)
+            → (i : ℕ) → i < choose x e (withEntry e (rest (e .vectors) (e .pivots) (e .count) (getD cols j 0)) (bitXor (2 ^ j) (used (e .vectors) (e .pivots) (e .tags) (e .count) (getD cols j 0)))) .count
+            → Only (marked cols) n (getD (choose x e (withEntry e (rest (e .vectors) (e .pivots) (e .count) (getD cols j 0)) (bitXor (2 ^ j) (used (e .vectors) (e .pivots) (e .tags) (e .count) (getD cols j 0)))) .tags) i 0)
         go true q i h = ih i h
         go false q i h =
             below-suc (λ (i : ℕ). Only (marked cols) n (getD (set (e .tags) (e .count) t) i 0)) (e .count)
@@ -110,25 +109,25 @@ tags-only cols w hw hc n (suc j) hj = step (built cols j) (built-is cols w hw hc
             i (subst (λ (k : ℕ). i < k) (add-one (e .count)) h)
 
 -- step 2: what the elimination of φ uses for an unmarked column is the sum that the definition takes
-pub summands-used : (m : ℕ) (cols : List ℕ) (w : ℕ) → w ≤ 32 → m ≤ 24 → ((i : ℕ) → getD (phi m cols) i 0 < 2 ^ w) → (j : ℕ) → j < m → marked (phi m cols) j ≡ false
-    → used (built (phi m cols) m .vectors) (built (phi m cols) m .pivots) (built (phi m cols) m .tags) (built (phi m cols) m .count) (getD (phi m cols) j 0) ≡ summands m cols j
-summands-used m cols w hw hm hc j hj e =
+pub summands-used : (room m : ℕ) (cols : List ℕ) (w : ℕ) → w ≤ 32 → m ≤ room → ((i : ℕ) → getD (phi m cols) i 0 < 2 ^ w) → (j : ℕ) → j < m → marked (phi m cols) j ≡ false
+    → used (built room (phi m cols) m .vectors) (built room (phi m cols) m .pivots) (built room (phi m cols) m .tags) (built room (phi m cols) m .count) (getD (phi m cols) j 0) ≡ summands m cols j
+summands-used room m cols w hw hm hc j hj e =
     let F = phi m cols in
-    let b = built F m in
-    let g = built-is F w hw hc m hm in
+    let b = built room F m in
+    let g = built-is room F w hw hc m hm in
     let v = getD F j 0 in
     summands-one m cols j (used (b .vectors) (b .pivots) (b .tags) (b .count) v) hj e (used-below F m (b .vectors) (b .pivots) (b .tags) (b .count) (g .basis) v)
-    (used-only (marked F) m (b .vectors) (b .pivots) (b .tags) (b .count) v (tags-only F w hw hc m m hm))
+    (used-only (marked F) m (b .vectors) (b .pivots) (b .tags) (b .count) v (tags-only room F w hw hc m m hm))
     (solved-zero F m (b .vectors) (b .pivots) (b .tags) (b .count) (g .basis) v (g .basis .span j hj))
 
 -- E: what the elimination of δ uses for a column of φ is the set that the definition takes
-pub eraser-used : (n b m : ℕ) (hm : m ≤ n) (cols : List ℕ) (small : (y : ℕ) → comb cols y < 2 ^ n) (trailing : (t : ℕ) → t < 2 ^ (n - m) → comb (delta m cols) t ≡ 0 → t ≡ 0)
-    → n - m ≤ 24 → ((i : ℕ) → getD (delta m cols) i 0 < 2 ^ (n - m)) → (j : ℕ) → b ≤ j → j < m → zeroColumn (phi m cols) j ≡ false
-    → eraser n b m cols j ≡ used (built (delta m cols) (n - m) .ws) (built (delta m cols) (n - m) .qs) (built (delta m cols) (n - m) .ts) (built (delta m cols) (n - m) .k) (getD (phi m cols) j 0) * 2 ^ m
-eraser-used n b m hm cols small trailing hd hc j hb hj e =
+pub eraser-used : (room : ℕ) → room ≤ 32 → (n b m : ℕ) (hm : m ≤ n) (cols : List ℕ) (small : (y : ℕ) → comb cols y < 2 ^ n) (trailing : (t : ℕ) → t < 2 ^ (n - m) → comb (delta m cols) t ≡ 0 → t ≡ 0)
+    → n - m ≤ room → ((i : ℕ) → getD (delta m cols) i 0 < 2 ^ (n - m)) → (j : ℕ) → b ≤ j → j < m → zeroColumn (phi m cols) j ≡ false
+    → eraser n b m cols j ≡ used (built room (delta m cols) (n - m) .vectors) (built room (delta m cols) (n - m) .pivots) (built room (delta m cols) (n - m) .tags) (built room (delta m cols) (n - m) .count) (getD (phi m cols) j 0) * 2 ^ m
+eraser-used room hroom n b m hm cols small trailing hd hc j hb hj e =
     let D = delta m cols in
-    let a = built D (n - m) in
-    let g = built-is D (n - m) (omega arith) hc (n - m) hd in
+    let a = built room D (n - m) in
+    let g = built-is room D (n - m) (omega arith) hc (n - m) hd in
     let v = getD (phi m cols) j 0 in
     let r = eraser-right n b m hm cols small trailing j hb hj e in
     let z : rest (a .vectors) (a .pivots) (a .count) v ≡ 0 = ap (rest (a .vectors) (a .pivots) (a .count)) (sym (r .3)) ∙ spanned D (n - m) (a .vectors) (a .pivots) (a .tags) (a .count) (g .basis) (r .0) (r .1) in
@@ -146,10 +145,10 @@ pub column-adding : (a : List ℕ) (g : ℕ → ℕ) (n j : ℕ) → j < n → g
 column-adding a g n j h =
     sym (comb-one (after a (adding g n)) j) ∙ comb-after a (adding g n) (2 ^ j) ∙ ap (comb a) (adding-at g n j h) ∙ comb-xor a (2 ^ j) (g j) ∙ ap (λ (k : ℕ). bitXor k (comb a (g j))) (comb-one a j)
 
--- columns moved: column σ j in the place of column j
-pub column-moving : (a : List ℕ) (σ : ℕ → ℕ) (n j : ℕ) → j < n → getD (after a (placing σ n)) j 0 ≡ getD a (σ j) 0
-column-moving a σ n j h =
-    sym (comb-one (after a (placing σ n)) j) ∙ comb-after a (placing σ n) (2 ^ j) ∙ ap (comb a) (moving-at σ n j h) ∙ comb-one a (σ j)
+-- columns placed: column σ j in the place of column j
+pub column-placing : (a : List ℕ) (σ : ℕ → ℕ) (n j : ℕ) → j < n → getD (after a (placing σ n)) j 0 ≡ getD a (σ j) 0
+column-placing a σ n j h =
+    sym (comb-one (after a (placing σ n)) j) ∙ comb-after a (placing σ n) (2 ^ j) ∙ ap (comb a) (placing-at σ n j h) ∙ comb-one a (σ j)
 
 -- P, and so P⁻¹: column j with what steps 1 and 2 add to it
 pub column-operations : (n m : ℕ) (hm : m ≤ n) (cols : List ℕ) (j : ℕ) → j < n
@@ -158,7 +157,7 @@ column-operations n m hm cols j h =
     sym (comb-one (operations n m cols) j) ∙ operations-sum n m hm cols (2 ^ j) (pow-lt h) ∙ ap₂ (λ (x y : ℕ). bitXor (2 ^ j) (bitXor x y)) g1 g2
   where
     g1 : G1 n m hm cols (2 ^ j) ≡ mate (unmarked n m cols) (chosen n m cols) j
-    g1 = unfold G1 in comb-one (listed (mate (unmarked n m cols) (chosen n m cols)) n 0) j ∙ each-at (mate (unmarked n m cols) (chosen n m cols)) n 0 j h ∙ ap (mate (unmarked n m cols) (chosen n m cols)) (native.Mathlib.Nat.zero-add j)
+    g1 = unfold G1 in comb-one (listed (mate (unmarked n m cols) (chosen n m cols)) n 0) j ∙ listed-at 0 (mate (unmarked n m cols) (chosen n m cols)) n 0 j h ∙ ap (mate (unmarked n m cols) (chosen n m cols)) (native.Mathlib.Nat.zero-add j)
 
     g2 : G2 n m hm cols (2 ^ j) ≡ summands m (after cols (step1 n m cols)) j
-    g2 = unfold G2 in comb-one (listed (summands m (after cols (step1 n m cols))) n 0) j ∙ each-at (summands m (after cols (step1 n m cols))) n 0 j h ∙ ap (summands m (after cols (step1 n m cols))) (native.Mathlib.Nat.zero-add j)
+    g2 = unfold G2 in comb-one (listed (summands m (after cols (step1 n m cols))) n 0) j ∙ listed-at 0 (summands m (after cols (step1 n m cols))) n 0 j h ∙ ap (summands m (after cols (step1 n m cols))) (native.Mathlib.Nat.zero-add j)

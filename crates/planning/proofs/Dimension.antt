@@ -12,7 +12,7 @@ use lib.Dec.{eqb}
 use lib.ListN.{length}
 use lib.Bits.{bitXor, xor-comm, xor-lt, xor-self, xor-shifted, xor-zero-r}
 use borrow.Author.Tests.{eq-eqb, eqb-true}
-use Rattle.algebra.proofs.Digits.{bin-ext, bit-cases, bit-here, bit-suc, bit-xor, bit-zero, digit, half-lt, times-lt, times-zero, xor-eq}
+use Rattle.algebra.proofs.Digits.{bin-ext, bit-cases, bit-here, bit-suc, bit-times, bit-xor, bit-zero, digit, half-lt, times-lt, times-one, times-zero, xor-eq}
 use Rattle.algebra.proofs.Linear.{comb-xor}
 use Rattle.algebra.proofs.Pigeon.{pigeon}
 use Rattle.algebra.proofs.Search.{le-or-lt, least-holds, least-upto}
@@ -46,15 +46,6 @@ span-le k l g h w a = inject-le k l f (λ z q. f-lt z q) (λ x y p q e. a x y p 
 -- ---- a number spread over listed places
 abbrev pub powers : List ℕ → List ℕ
 powers l = map (λ i. 2 ^ i) l
-
-pub bit-times : (d w q : ℕ) → bit (times d w) q ≡ times d (bit w q)
-unfolding times
-bit-times zero w q = bit-zero q
-bit-times (suc d) w q = refl
-
-pub times-one : (d : ℕ) → d < 2 → times d 1 ≡ d
-unfolding times
-times-one = bit-cases (λ (d : ℕ). times d 1 ≡ d) refl refl
 
 pub times-none : (v : ℕ) → times 0 v ≡ 0
 unfolding times

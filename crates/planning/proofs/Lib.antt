@@ -9,8 +9,5 @@ pub mod Round
 pub mod Rounds
 pub mod Run
 pub mod Bound
-pub mod Stored
-pub mod Whole
 pub mod Bridges
 pub mod Snoc
-pub mod Main

@@ -18,7 +18,7 @@ use Rattle.algebra.proofs.Pigeon.{covers}
 use Rattle.algebra.proofs.Search.{le-or-lt}
 use Rattle.algebra.specs.Search.{firstOf, listed, which}
 use Rattle.algebra.specs.Vector.{bit, comb, times}
-use Rattle.planning.proofs.Acts.{All, Asc, adding-at, adding-is, adding-lt, adding-twice, all-mono, bit-above, bit-shifted, comb-after, each-length, first-lt, hit-x, linear-after, linear-ext, miss, moving-at, partner-back, partner-lt, partner-out, same-or, sum-none, swap-lt, swap-twice, times-no, which-all, which-asc, which-holds}
+use Rattle.planning.proofs.Acts.{All, Asc, adding-at, adding-is, adding-lt, adding-twice, all-mono, bit-above, bit-shifted, comb-after, listed-length, first-lt, hit-x, linear-after, linear-ext, miss, placing-at, partner-back, partner-lt, partner-out, same-or, sum-none, swap-lt, swap-twice, times-no, which-all, which-asc, which-holds}
 use Rattle.planning.proofs.Dimension.{which-ext, which-none, which-not, which-split}
 use Rattle.planning.proofs.Parts.{delta-comb, phi-at}
 use Rattle.planning.proofs.Step1.{shl-below, shr-below}
@@ -70,9 +70,9 @@ module _ (n b m : ℕ) (hm : m ≤ n) (cols : List ℕ) where
   unfolding eraser
   e-low i h = ap (with-set i) (ap (λ (q : Bool). q && ltb i m && not (zeroColumn (phi m cols) i)) (lt-leb b i h))
 
-  pub e-blank : (i : ℕ) → zeroColumn (phi m cols) i ≡ true → eraser n b m cols i ≡ 0
+  pub eraser-zero : (i : ℕ) → zeroColumn (phi m cols) i ≡ true → eraser n b m cols i ≡ 0
   unfolding eraser
-  e-blank i e = ap (with-set i) (and-last (leb b i) (ltb i m) (not (zeroColumn (phi m cols) i)) (ap not e))
+  eraser-zero i e = ap (with-set i) (and-last (leb b i) (ltb i m) (not (zeroColumn (phi m cols) i)) (ap not e))
 
   pub e-nil : (j i : ℕ) → times (bit (eraser n b m cols j) i) (eraser n b m cols i) ≡ 0
   e-nil j i =
@@ -110,14 +110,14 @@ module _ (n b m : ℕ) (hm : m ≤ n) (cols : List ℕ) where
   times-mod zero v k h = zero-mod (2 ^ k)
   times-mod (suc d) v k h = h
 
-  each-mod : (g : ℕ → ℕ) (k n c w : ℕ) → ((j : ℕ) → g j % 2 ^ k ≡ 0) → comb (listed g n c) w % 2 ^ k ≡ 0
+  listed-mod : (g : ℕ → ℕ) (k n c w : ℕ) → ((j : ℕ) → g j % 2 ^ k ≡ 0) → comb (listed g n c) w % 2 ^ k ≡ 0
   unfolding listed comb
-  each-mod g k zero c w h = zero-mod (2 ^ k)
-  each-mod g k (suc n) c w h =
-      xor-mod (times (w % 2) (g c)) (comb (listed g n (suc c)) (w / 2)) k ∙ ap₂ bitXor (times-mod (w % 2) (g c) k (h c)) (each-mod g k n (suc c) (w / 2) h)
+  listed-mod g k zero c w h = zero-mod (2 ^ k)
+  listed-mod g k (suc n) c w h =
+      xor-mod (times (w % 2) (g c)) (comb (listed g n (suc c)) (w / 2)) k ∙ ap₂ bitXor (times-mod (w % 2) (g c) k (h c)) (listed-mod g k n (suc c) (w / 2) h)
 
   H-mod : (u : ℕ) → H u % 2 ^ m ≡ 0
-  H-mod u = each-mod (eraser n b m cols) m n 0 u (λ j. ap (λ (k : ℕ). k % 2 ^ m) (e-shift j .2) ∙ mul-mod-left (e-shift j .0) (2 ^ m))
+  H-mod u = listed-mod (eraser n b m cols) m n 0 u (λ j. ap (λ (k : ℕ). k % 2 ^ m) (e-shift j .2) ∙ mul-mod-left (e-shift j .0) (2 ^ m))
 
   H-zero : (u : ℕ) → u < 2 ^ b → H u ≡ 0
   H-zero u h = sum-none (eraser n b m cols) n u (λ i. ⊎-elim (λ (l : b ≤ i). times-no (bit u i) (eraser n b m cols i) (bit-above u b i h l)) (λ (l : i < b). ap (times (bit u i)) (e-low i l) ∙ times-zero (bit u i)) (le-or-lt b i))
@@ -175,10 +175,10 @@ module _ (n b m : ℕ) (hm : m ≤ n) (cols : List ℕ) where
       where
         go : (x : Bool) → zeroColumn (phi m cols) j ≡ x → bitXor (comb cols (2 ^ j) / 2 ^ m) (comb cols (eraser n b m cols j) / 2 ^ m) ≡ 0
         go true e =
-            ap₂ bitXor (sym (phi-at m cols j h) ∙ blank-zero e) (ap (λ (k : ℕ). comb cols k / 2 ^ m) (e-blank j e) ∙ ap (λ (k : ℕ). k / 2 ^ m) (comb-zero cols) ∙ zero-div (2 ^ m))
+            ap₂ bitXor (sym (phi-at m cols j h) ∙ zero-there e) (ap (λ (k : ℕ). comb cols k / 2 ^ m) (eraser-zero j e) ∙ ap (λ (k : ℕ). k / 2 ^ m) (comb-zero cols) ∙ zero-div (2 ^ m))
           where
-            blank-zero : zeroColumn (phi m cols) j ≡ true → getD (phi m cols) j 0 ≡ 0
-            blank-zero q = unfold zeroColumn in eqb-true (getD (phi m cols) j 0) 0 q
+            zero-there : zeroColumn (phi m cols) j ≡ true → getD (phi m cols) j 0 ≡ 0
+            zero-there q = unfold zeroColumn in eqb-true (getD (phi m cols) j 0) 0 q
         go false e =
             let r = eraser-right j hb h e in
             ap₂ bitXor (sym (phi-at m cols j h)) (ap (λ (k : ℕ). comb cols k / 2 ^ m) (r .2) ∙ sym (delta-comb m cols (r .0)) ∙ r .3) ∙ xor-self (getD (phi m cols) j 0)
@@ -214,7 +214,7 @@ module _ (n b m : ℕ) (hb : b ≤ m) (hm : m ≤ n) (cols : List ℕ) where
 
   pub S-at : (j : ℕ) → j < n → comb (swaps n b m cols) (2 ^ j) ≡ 2 ^ partner xs ys j
   unfolding swaps
-  S-at j h = moving-at (partner xs ys) n j h
+  S-at j h = placing-at (partner xs ys) n j h
 
   pub S-lt : (x : ℕ) → comb (swaps n b m cols) x < 2 ^ n
   unfolding swaps placing
@@ -224,18 +224,18 @@ module _ (n b m : ℕ) (hb : b ≤ m) (hm : m ≤ n) (cols : List ℕ) where
   unfolding swaps placing
   S-twice x h = swap-twice (partner xs ys) n (λ j l. stays n j hm l) back x h
 
-  each-low : (g : ℕ → ℕ) (k m n c w : ℕ) → ((j : ℕ) → j < c + m → g j < 2 ^ k) → w < 2 ^ m → comb (listed g n c) w < 2 ^ k
+  listed-low : (g : ℕ → ℕ) (k m n c w : ℕ) → ((j : ℕ) → j < c + m → g j < 2 ^ k) → w < 2 ^ m → comb (listed g n c) w < 2 ^ k
   unfolding listed comb
-  each-low g k m zero c w h l = pow-pos k
-  each-low g k zero (suc n) c w h l = subst (λ (x : ℕ). x < 2 ^ k) (sym (ap (comb (listed g (suc n) c)) (lt-one l) ∙ comb-zero (listed g (suc n) c))) (pow-pos k)
-  each-low g k (suc m) (suc n) c w h l =
+  listed-low g k m zero c w h l = pow-pos k
+  listed-low g k zero (suc n) c w h l = subst (λ (x : ℕ). x < 2 ^ k) (sym (ap (comb (listed g (suc n) c)) (lt-one l) ∙ comb-zero (listed g (suc n) c))) (pow-pos k)
+  listed-low g k (suc m) (suc n) c w h l =
       xor-lt k (times (w % 2) (g c)) (comb (listed g n (suc c)) (w / 2)) (times-lt k (w % 2) (g c) (h c (omega arith)))
-      (each-low g k m n (suc c) (w / 2) (λ j q. h j (omega arith)) (half-lt m l))
+      (listed-low g k m n (suc c) (w / 2) (λ j q. h j (omega arith)) (half-lt m l))
 
   -- the numbers below 2 ^ m stay among themselves
   pub S-low : (w : ℕ) → w < 2 ^ m → comb (swaps n b m cols) w < 2 ^ m
   unfolding swaps placing
-  S-low w h = each-low (λ j. 2 ^ partner xs ys j) m m n 0 w (λ j l. pow-lt (stays m j (le-refl m) (omega arith))) h
+  S-low w h = listed-low (λ j. 2 ^ partner xs ys j) m m n 0 w (λ j l. pow-lt (stays m j (le-refl m) (omega arith))) h
 
   -- the columns from m on stay
   pub S-high : (t : ℕ) → t < 2 ^ (n - m) → comb (swaps n b m cols) (t * 2 ^ m) ≡ t * 2 ^ m
@@ -315,7 +315,7 @@ module _ (n b m : ℕ) (hb : b ≤ m) (hm : m ≤ n) (cols : List ℕ) (k : Soun
   -- S keeps what a round needs
   pub swapped-sound : Sound n m swapped
   swapped-sound = record {
-    long = after-length cols s ∙ unfold swaps placing in each-length (λ j. 2 ^ partner (xs n b m hb hm cols) (ys n b m hb hm cols) j) n 0;
+    long = after-length cols s ∙ unfold swaps placing in listed-length (λ j. 2 ^ partner (xs n b m hb hm cols) (ys n b m hb hm cols) j) n 0;
     small = swapped-small;
     regular = λ z h q. sym (S-twice n b m hb hm cols z h) ∙ ap (comb s) (k .regular (comb s z) (S-lt n b m hb hm cols z) (sym (comb-after cols s z) ∙ q)) ∙ comb-zero s;
     trailing = swapped-trailing;
@@ -339,7 +339,7 @@ module _ (n b m : ℕ) (hb : b ≤ m) (hm : m ≤ n) (cols : List ℕ) (k : Soun
   pub next-sound : Sound n m next
   unfolding erases
   next-sound = record {
-    long = after-length swapped e ∙ unfold adding in each-length (λ j. bitXor (2 ^ j) (eraser n b m swapped j)) n 0;
+    long = after-length swapped e ∙ unfold adding in listed-length (λ j. bitXor (2 ^ j) (eraser n b m swapped j)) n 0;
     small = λ y. subst (λ (u : ℕ). u < 2 ^ n) (sym (next-is y)) (k .small (comb s (comb e y)));
     regular = λ z h q.
         let a : comb s (comb e z) ≡ 0 = k .regular (comb s (comb e z)) (S-lt n b m hb hm cols (comb e z)) (sym (next-is z) ∙ q) in
@@ -370,8 +370,8 @@ module _ (n b m : ℕ) (hb : b ≤ m) (hm : m ≤ n) (cols : List ℕ) (k : Soun
       let Y = ys n b m hb hm cols in
       let m-is : b + (m - b) ≡ m = omega arith in
       let low : which (λ j. not (zeroColumn (phi m next) j)) b 0 ≡ which (λ j. not (zeroColumn (phi m cols) (partner X Y j))) b 0
-      = which-ext (λ j. not (zeroColumn (phi m next) j)) (λ j. not (zeroColumn (phi m cols) (partner X Y j))) b 0 (λ i u v. blank-low i (omega arith)) in
-      let mid : which (λ j. not (zeroColumn (phi m next) j)) (m - b) b ≡ [] = which-none (λ j. not (zeroColumn (phi m next) j)) (m - b) b (λ i u v. blank-mid i u (omega arith)) in
+      = which-ext (λ j. not (zeroColumn (phi m next) j)) (λ j. not (zeroColumn (phi m cols) (partner X Y j))) b 0 (λ i u v. zero-low i (omega arith)) in
+      let mid : which (λ j. not (zeroColumn (phi m next) j)) (m - b) b ≡ [] = which-none (λ j. not (zeroColumn (phi m next) j)) (m - b) b (λ i u v. zero-mid i u (omega arith)) in
       let after-count : length (which (λ j. not (zeroColumn (phi m next) j)) m 0) ≡ length (which (λ j. not (zeroColumn (phi m cols) (partner X Y j))) b 0)
       = ap (λ (u : ℕ). length (which (λ j. not (zeroColumn (phi m next) j)) u 0)) (sym m-is) ∙ which-split (λ j. not (zeroColumn (phi m next) j)) b (m - b) 0
       ∙ ap₂ (λ (u v : ℕ). u + v) (ap length low) (ap (λ (u : ℕ). length (which (λ j. not (zeroColumn (phi m next) j)) (m - b) u)) (zero-add b) ∙ ap length mid) ∙ add-zero (length (which (λ j. not (zeroColumn (phi m cols) (partner X Y j))) b 0)) in
@@ -383,8 +383,8 @@ module _ (n b m : ℕ) (hb : b ≤ m) (hm : m ≤ n) (cols : List ℕ) (k : Soun
       (which-holds nz b 0) (all-mono (λ y. zeroColumn (phi m cols) y ≡ true) (λ y. not (zeroColumn (phi m cols) y) ≡ false) (λ y q. ap not q) Y (which-holds (zeroColumn (phi m cols)) (m - b) b)) in
       after-count ∙ omega (arith, before, rest, cut)
     where
-      blank-low : (j : ℕ) → j < b → not (zeroColumn (phi m next) j) ≡ not (zeroColumn (phi m cols) (partner (xs n b m hb hm cols) (ys n b m hb hm cols) j))
-      blank-low j h = unfold zeroColumn in ap (λ (u : ℕ). not (eqb u 0)) (next-low j h)
+      zero-low : (j : ℕ) → j < b → not (zeroColumn (phi m next) j) ≡ not (zeroColumn (phi m cols) (partner (xs n b m hb hm cols) (ys n b m hb hm cols) j))
+      zero-low j h = unfold zeroColumn in ap (λ (u : ℕ). not (eqb u 0)) (next-low j h)
 
-      blank-mid : (j : ℕ) → b ≤ j → j < m → not (zeroColumn (phi m next) j) ≡ false
-      blank-mid j l h = unfold zeroColumn in ap (λ (u : ℕ). not (eqb u 0)) (next-mid j l h)
+      zero-mid : (j : ℕ) → b ≤ j → j < m → not (zeroColumn (phi m next) j) ≡ false
+      zero-mid j l h = unfold zeroColumn in ap (λ (u : ℕ). not (eqb u 0)) (next-mid j l h)

@@ -3,8 +3,8 @@ use mathlib.Core.Path.{_∙_, _≡_, ap, refl, subst, sym}
 use mathlib.Core.Bool.{Bool, false, not, true}
 use mathlib.Core.Logic.{_⊎_, ⊎-elim}
 use mathlib.Core.List.{List, [], _∷_, map}
-use Prim.Native.Nat.{_%_, _+_, _-_, _/_, _<_, _^_, _≤_, suc, zero, ℕ}
-use native.Mathlib.Nat.{add-div-right, div-eq-of-lt, zero-add}
+use Prim.Native.Nat.{_%_, _*_, _+_, _-_, _/_, _<_, _^_, _≤_, suc, zero, ℕ}
+use native.Mathlib.Nat.{add-div-right, div-eq-of-lt, zero-add, div-le-of-le-mul}
 use native.Mathlib.Numerals.{add-one}
 use native.Mathlib.Omega.{arith}
 use lib.Dec.{eqb}
@@ -18,18 +18,14 @@ use Rattle.algebra.proofs.Search.{le-or-lt, none-elim, some-elim}
 use Rattle.algebra.specs.Matrix.{columns, target}
 use Rattle.algebra.specs.Search.{which}
 use Rattle.algebra.specs.Vector.{comb}
-use Rattle.planning.proofs.Acts.{All, comb-after, each-length, linear-self, which-member}
+use Rattle.planning.proofs.Acts.{All, comb-after, listed-length, linear-self, which-member}
 use Rattle.planning.proofs.Dimension.{which-none}
 use Rattle.planning.proofs.Parts.{phi-comb}
 use Rattle.planning.proofs.Round.{E-dry, S-low, S-lt, S-twice, Sound, erases-lt, erases-twice, next-is, next-nonzero, next-sound, nonzero}
 use Rattle.planning.proofs.Step2.{after-length}
 use Rattle.planning.specs.Columns.{after, phi, placing, zeroColumn}
 use Rattle.planning.specs.Making.{busy, dividedUp, erases, partner, rounds, swaps}
-use Rattle.planning.specs.Pass.{performed}
-
-abbrev pub AllP : (List ℕ → Type 0) → List (List ℕ) → Type 0
-AllP P [] = Unit {0}
-AllP P (x ∷ xs) = P x × AllP P xs
+use Rattle.planning.specs.Pass.{Pass, complemented, performed}
 
 -- ---- whether φ is zero
 all-of-none : (P : ℕ → Type 0) (l : List ℕ) → length l ≡ 0 → All P l
@@ -57,10 +53,37 @@ busy-some m cols e =
     not-zero : (j : ℕ) → not (zeroColumn (phi m cols) j) ≡ true → getD (phi m cols) j 0 ≡ 0 → ⊥
     not-zero j q = unfold zeroColumn in eqb-false (getD (phi m cols) j 0) 0 (not-true (eqb (getD (phi m cols) j 0) 0) q)
 
+-- ---- the rounds, step by step
+pub rounds-stop : (g n b m : ℕ) (cols : List ℕ) → busy m cols ≡ false → rounds g n b m cols ≡ cols ∷ []
+unfolding rounds
+rounds-stop zero n b m cols e = refl
+rounds-stop (suc g) n b m cols e = ap (λ (x : Bool). elim x [ false ↦ cols ∷ [] | true ↦ after (erases n b m (after cols (swaps n b m cols))) (swaps n b m cols) ∷ rounds g n b m (after (after cols (swaps n b m cols)) (erases n b m (after cols (swaps n b m cols)))) ]) e
+
+pub rounds-go : (g n b m : ℕ) (cols : List ℕ) → busy m cols ≡ true
+    → rounds (suc g) n b m cols ≡ after (erases n b m (after cols (swaps n b m cols))) (swaps n b m cols) ∷ rounds g n b m (after (after cols (swaps n b m cols)) (erases n b m (after cols (swaps n b m cols))))
+unfolding rounds
+rounds-go g n b m cols e = ap (λ (x : Bool). elim x [ false ↦ cols ∷ [] | true ↦ after (erases n b m (after cols (swaps n b m cols))) (swaps n b m cols) ∷ rounds g n b m (after (after cols (swaps n b m cols)) (erases n b m (after cols (swaps n b m cols)))) ]) e
+
+pub idle : (m : ℕ) (cols : List ℕ) → nonzero m cols ≡ 0 → busy m cols ≡ false
+idle m cols e = go (busy m cols) refl
+  where
+    go : (x : Bool) → busy m cols ≡ x → x ≡ false
+    go true q = absurd (omega (arith, busy-some m cols q, e))
+    go false q = refl
+
 -- ---- rounding up
 pub up-zero : (k : ℕ) → 0 < k → dividedUp 0 k ≡ 0
 unfolding dividedUp
 up-zero k h = ap (λ (x : ℕ). x / k) (zero-add (k - 1)) ∙ div-eq-of-lt (omega arith)
+
+pub up-le : (a k : ℕ) → 0 < k → dividedUp a k ≤ a
+unfolding dividedUp
+up-le a k h = ⊎-elim (λ (z : a ≤ 0). omega (arith, ap (λ (u : ℕ). dividedUp u k) (native.Mathlib.Nat.le-antisymm z (omega arith)) ∙ up-zero k h)) (λ (z : 0 < a). div-le-of-le-mul k (big a k z h)) (le-or-lt a 0)
+  where
+    big : (a k : ℕ) → 0 < a → 0 < k → a + (k - 1) ≤ k * a
+    big zero k p q = absurd (omega arith)
+    big (suc zero) k p q = omega (arith, native.Mathlib.Nat.mul-one k)
+    big (suc (suc a)) k p q = omega (arith, big (suc a) k (omega arith) q, native.Mathlib.Nat.mul-suc k (suc a))
 
 pub up-step : (a k : ℕ) → 0 < a → 0 < k → dividedUp a k ≡ suc (dividedUp (a - k) k)
 unfolding dividedUp
@@ -72,6 +95,12 @@ up-step a k ha hk =
     let y : (a - 1) / k ≡ 0 = div-eq-of-lt (omega arith) in
     ap (λ (x : ℕ). x / k) (omega arith) ∙ add-div-right (a - 1) hk ∙ add-one ((a - 1) / k) ∙ ap suc (y ∙ sym z))
     (le-or-lt k a)
+
+-- ---- a pass before others has no complement
+pub complemented-more : (f : List ℕ) (fs : List (List ℕ)) (c : ℕ) → 0 < length fs → complemented (f ∷ fs) c ≡ record { rows = f; complement = 0 } ∷ complemented fs c
+unfolding complemented
+complemented-more f [] c h = absurd (omega arith)
+complemented-more f (g ∷ fs) c h = refl
 
 -- ---- a pass that can run, as its columns
 pub record Good (n b m : ℕ) (p : List ℕ) : Type 0 where
@@ -85,7 +114,7 @@ module _ (n b m : ℕ) (hb : b ≤ m) (hm : m ≤ n) where
   pub round-good : (cols : List ℕ) → Sound n m cols → Good n b m (after (erases n b m (after cols (swaps n b m cols))) (swaps n b m cols))
   unfolding erases
   round-good cols k = record {
-    long = after-length e s ∙ unfold swaps placing in each-length (λ j. 2 ^ partner (which (λ j. not (zeroColumn (phi m cols) j)) b 0) (which (zeroColumn (phi m cols)) (m - b) b) j) n 0;
+    long = after-length e s ∙ unfold swaps placing in listed-length (λ j. 2 ^ partner (which (λ j. not (zeroColumn (phi m cols) j)) b 0) (which (zeroColumn (phi m cols)) (m - b) b) j) n 0;
     small = λ y. subst (λ (u : ℕ). u < 2 ^ n) (sym (comb-after e s y)) (erases-lt n b m hb hm cols k (comb s y) (S-lt n b m hb hm cols y));
     regular = λ z h q.
         let c : comb s z ≡ 0 = sym (erases-twice n b m hb hm cols k (comb s z) (S-lt n b m hb hm cols z)) ∙ ap (comb e) (sym (comb-after e s z) ∙ q) ∙ comb-zero e in
@@ -122,13 +151,13 @@ module _ (n b m : ℕ) (hb : b ≤ m) (hm : m ≤ n) where
   nx cols = after (after cols (swaps n b m cols)) (erases n b m (after cols (swaps n b m cols)))
 
   -- every pass can run
-  pub rounds-good : b < m → (g : ℕ) (cols : List ℕ) → Sound n m cols → nonzero m cols ≤ g → AllP (Good n b m) (rounds g n b m cols)
+  pub rounds-good : b < m → (g : ℕ) (cols : List ℕ) → Sound n m cols → nonzero m cols ≤ g → All (Good n b m) (rounds g n b m cols)
   unfolding rounds
   rounds-good hlt zero cols k h = (last-good cols k (omega arith), tt)
   rounds-good hlt (suc g) cols k h = go (busy m cols) refl (λ q. rounds-good hlt g (nx cols) (next-sound n b m hb hm cols k) (omega (arith, next-nonzero n b m hb hm cols k, q)))
     where
-      go : (x : Bool) → busy m cols ≡ x → (0 < nonzero m cols → AllP (Good n b m) (rounds g n b m (nx cols)))
-          → AllP (Good n b m) (elim x [ false ↦ cols ∷ [] | true ↦ after (erases n b m (after cols (swaps n b m cols))) (swaps n b m cols) ∷ rounds g n b m (nx cols) ])
+      go : (x : Bool) → busy m cols ≡ x → (0 < nonzero m cols → All (Good n b m) (rounds g n b m (nx cols)))
+          → All (Good n b m) (elim x [ false ↦ cols ∷ [] | true ↦ after (erases n b m (after cols (swaps n b m cols))) (swaps n b m cols) ∷ rounds g n b m (nx cols) ])
       go false e ih = (last-good cols k (idle-none m cols e), tt)
       go true e ih = (round-good cols k, ih (busy-some m cols e))
 
@@ -146,27 +175,21 @@ module _ (n b m : ℕ) (hb : b ≤ m) (hm : m ≤ n) where
           ap suc (ih z ∙ ap (λ (u : ℕ). suc (dividedUp u (m - b))) (next-nonzero n b m hb hm cols k) ∙ sym (up-step (nonzero m cols) (m - b) z (omega arith)))
 
   -- ---- performed one after the other
-  pub complements-more : (k c : ℕ) → 0 < k → complements (suc k) c ≡ 0 ∷ complements k c
-  unfolding complements
-  complements-more zero c h = absurd (omega arith)
-  complements-more (suc k) c h = refl
-
   pub pass-moves : (p : List ℕ) (c x : ℕ) → comb p x < 2 ^ n → target (columns n p) c x ≡ bitXor (comb p x) c
   unfolding target
   pass-moves p c x h = ap (λ (u : ℕ). bitXor u c) (apply-transpose p n x h)
 
-  pub rounds-some : (g : ℕ) (cols : List ℕ) → 0 < length (rounds g n b m cols)
+  rounds-some : (g : ℕ) (cols : List ℕ) → 0 < length (map (columns n) (rounds g n b m cols))
   unfolding rounds
   rounds-some zero cols = omega arith
   rounds-some (suc g) cols = go (busy m cols)
     where
-      go : (x : Bool) → 0 < length {A = List ℕ} (elim x [ false ↦ cols ∷ [] | true ↦ after (erases n b m (after cols (swaps n b m cols))) (swaps n b m cols) ∷ rounds g n b m (nx cols) ])
+      go : (x : Bool) → 0 < length (map (columns n) (elim x [ false ↦ cols ∷ [] | true ↦ after (erases n b m (after cols (swaps n b m cols))) (swaps n b m cols) ∷ rounds g n b m (nx cols) ]))
       go true = omega arith
       go false = omega arith
 
-  pub rounds-move : (g : ℕ) (cols : List ℕ) → Sound n m cols → (c x : ℕ) → x < 2 ^ n
-      → performed (map (columns n) (rounds g n b m cols)) (complements (length (rounds g n b m cols)) c) x ≡ bitXor (comb cols x) c
-  unfolding rounds performed complements
+  pub rounds-move : (g : ℕ) (cols : List ℕ) → Sound n m cols → (c x : ℕ) → x < 2 ^ n → performed (complemented (map (columns n) (rounds g n b m cols)) c) x ≡ bitXor (comb cols x) c
+  unfolding rounds performed complemented
   rounds-move zero cols k c x h = pass-moves cols c x (k .small x)
   rounds-move (suc g) cols k c x h = go (busy m cols) (λ y l. rounds-move g (nx cols) (next-sound n b m hb hm cols k) c y l)
     where
@@ -187,11 +210,47 @@ module _ (n b m : ℕ) (hb : b ≤ m) (hm : m ≤ n) where
           next-is n b m hb hm cols k y ∙ ap (λ (u : ℕ). comb cols (comb s (comb e u))) (comb-after e s x)
           ∙ ap (λ (u : ℕ). comb cols (comb s u)) (erases-twice n b m hb hm cols k (comb s x) (S-lt n b m hb hm cols x)) ∙ ap (comb cols) (S-twice n b m hb hm cols x h)
 
-      go : (q : Bool) → ((y : ℕ) → y < 2 ^ n → performed (map (columns n) (rounds g n b m (nx cols))) (complements (length (rounds g n b m (nx cols))) c) y ≡ bitXor (comb (nx cols) y) c)
-          → performed (map (columns n) (elim q [ false ↦ cols ∷ [] | true ↦ after (erases n b m (after cols (swaps n b m cols))) (swaps n b m cols) ∷ rounds g n b m (nx cols) ]))
-          (complements (length {A = List ℕ} (elim q [ false ↦ cols ∷ [] | true ↦ after (erases n b m (after cols (swaps n b m cols))) (swaps n b m cols) ∷ rounds g n b m (nx cols) ])) c) x ≡ bitXor (comb cols x) c
+      go : (q : Bool) → ((y : ℕ) → y < 2 ^ n → performed (complemented (map (columns n) (rounds g n b m (nx cols))) c) y ≡ bitXor (comb (nx cols) y) c)
+          → performed (complemented (map (columns n) (elim q [ false ↦ cols ∷ [] | true ↦ after (erases n b m (after cols (swaps n b m cols))) (swaps n b m cols) ∷ rounds g n b m (nx cols) ])) c) x ≡ bitXor (comb cols x) c
       go false ih = pass-moves cols c x (k .small x)
       go true ih =
-          ap (λ (l : List ℕ). performed (columns n (after e s) ∷ map (columns n) (rounds g n b m (nx cols))) l x) (complements-more (length (rounds g n b m (nx cols))) c (rounds-some g (nx cols)))
-          ∙ ap (performed (map (columns n) (rounds g n b m (nx cols))) (complements (length (rounds g n b m (nx cols))) c)) (pass-moves (after e s) 0 x y-lt ∙ xor-zero-r y)
+          ap (λ (l : List Pass). performed l x) (complemented-more (columns n (after e s)) (map (columns n) (rounds g n b m (nx cols))) c (rounds-some g (nx cols)))
+          ∙ ap (performed (complemented (map (columns n) (rounds g n b m (nx cols))) c)) (pass-moves (after e s) 0 x y-lt ∙ xor-zero-r y)
           ∙ ih y y-lt ∙ ap (λ (u : ℕ). bitXor u c) y-is
+
+-- ---- where the rounds end
+-- the last of a list of matrices passes P
+abbrev pub Ends : (List ℕ → Type 0) → List (List ℕ) → Type 0
+Ends P [] = ⊥
+Ends P (p ∷ []) = P p
+Ends P (p ∷ q ∷ ps) = Ends P (q ∷ ps)
+
+ends-more : (P : List ℕ → Type 0) (p : List ℕ) (ps : List (List ℕ)) → Ends P ps → Ends P (p ∷ ps)
+ends-more P p [] e = absurd e
+ends-more P p (q ∷ ps) e = e
+
+module _ (n b m : ℕ) (hb : b < m) (hm : m ≤ n) where
+  abbrev next : List ℕ → List ℕ
+  next cols = after (after cols (swaps n b m cols)) (erases n b m (after cols (swaps n b m cols)))
+
+  fewer : (g : ℕ) (cols : List ℕ) → Sound n m cols → nonzero m cols ≤ suc g → busy m cols ≡ true → nonzero m (next cols) ≤ g
+  fewer g cols k h e = omega (arith, next-nonzero n b m (omega arith) hm cols k, busy-some m cols e)
+
+  -- while φ has nonzero columns: at the end it has none
+  pub rounds-end : (g : ℕ) (cols : List ℕ) → Sound n m cols → nonzero m cols ≤ g → Ends (λ p. nonzero m p ≡ 0) (rounds g n b m cols)
+  rounds-end zero cols k h = subst (Ends (λ p. nonzero m p ≡ 0)) (sym (rounds-stop zero n b m cols (idle m cols (omega arith)))) (omega arith)
+  rounds-end (suc g) cols k h = go (busy m cols) refl (λ q. rounds-end g (next cols) (next-sound n b m (omega arith) hm cols k) (fewer g cols k h q))
+    where
+      go : (x : Bool) → busy m cols ≡ x → (busy m cols ≡ true → Ends (λ p. nonzero m p ≡ 0) (rounds g n b m (next cols))) → Ends (λ p. nonzero m p ≡ 0) (rounds (suc g) n b m cols)
+      go false e ih = subst (Ends (λ p. nonzero m p ≡ 0)) (sym (rounds-stop (suc g) n b m cols e)) (idle-none m cols e)
+      go true e ih = subst (Ends (λ p. nonzero m p ≡ 0)) (sym (rounds-go g n b m cols e)) (ends-more (λ p. nonzero m p ≡ 0) (after (erases n b m (after cols (swaps n b m cols))) (swaps n b m cols)) (rounds g n b m (next cols)) (ih e))
+
+  -- to allow more rounds than there are nonzero columns changes nothing
+  pub rounds-fuel : (g h : ℕ) (cols : List ℕ) → Sound n m cols → nonzero m cols ≤ g → nonzero m cols ≤ h → rounds g n b m cols ≡ rounds h n b m cols
+  rounds-fuel zero h cols k p q = let i = idle m cols (omega arith) in rounds-stop zero n b m cols i ∙ sym (rounds-stop h n b m cols i)
+  rounds-fuel (suc g) zero cols k p q = let i = idle m cols (omega arith) in rounds-stop (suc g) n b m cols i ∙ sym (rounds-stop zero n b m cols i)
+  rounds-fuel (suc g) (suc h) cols k p q = go (busy m cols) refl (λ e. rounds-fuel g h (next cols) (next-sound n b m (omega arith) hm cols k) (fewer g cols k p e) (fewer h cols k q e))
+    where
+      go : (x : Bool) → busy m cols ≡ x → (busy m cols ≡ true → rounds g n b m (next cols) ≡ rounds h n b m (next cols)) → rounds (suc g) n b m cols ≡ rounds (suc h) n b m cols
+      go false e ih = rounds-stop (suc g) n b m cols e ∙ sym (rounds-stop (suc h) n b m cols e)
+      go true e ih = rounds-go g n b m cols e ∙ ap (λ (l : List (List ℕ)). after (erases n b m (after cols (swaps n b m cols))) (swaps n b m cols) ∷ l) (ih e) ∙ sym (rounds-go h n b m cols e)

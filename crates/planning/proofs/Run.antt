@@ -1,4 +1,5 @@
 -- Why does the plan for a nonsingular matrix run and make the order? Assumes nothing.
+use Rattle.algebra.proofs.Digits.{bits-same}
 use mathlib.Core.Path.{_∙_, _≡_, ap, refl, subst, sym}
 use mathlib.Core.Bool.{Bool, false, true}
 use mathlib.Core.Logic.{_⊎_, ⊎-elim}
@@ -6,33 +7,36 @@ use mathlib.Core.List.{List, [], _∷_, map}
 use Prim.Native.Nat.{_%_, _*_, _+_, _-_, _/_, _<_, _^_, _≤_, suc, zero, ℕ}
 use native.Mathlib.Nat.{div-le-of-le-mul}
 use native.Mathlib.Omega.{arith}
-use lib.ListN.{length, length-map, take}
-use lib.Bits.{bitXor}
-use Rattle.algebra.proofs.Columns.{apply-transpose, columns-length, columns-lt}
-use Rattle.algebra.proofs.Linear.{apply-columns, comb-lt, comb-zero}
+use lib.ListN.{length, length-map, take, getD}
+use lib.Pow.{pow-lt}
+use lib.Seq.{ext-getD}
+use lib.Bits.{bitXor, and-comm}
+use Rattle.algebra.proofs.Columns.{apply-transpose, columns-length, columns-lt, columns-at}
+use Rattle.algebra.proofs.Linear.{apply-columns, comb-lt, comb-zero, apply-bit, dot-unit, comb-one}
 use Rattle.algebra.proofs.Parts.{dry-by-bits}
 use Rattle.algebra.proofs.Rank.{rank-le}
 use Rattle.algebra.proofs.Search.{le-or-lt, none-intro}
 use Rattle.algebra.proofs.Singular.{kills-elim, regular-zero}
 use Rattle.algebra.specs.Matrix.{apply, columns, kills, marked, rank, singular, target}
 use Rattle.algebra.specs.Search.{which}
-use Rattle.algebra.specs.Vector.{comb}
-use Rattle.planning.proofs.Acts.{comb-after}
+use Rattle.algebra.specs.Vector.{comb, bit, parity}
+use Rattle.planning.proofs.Acts.{All, comb-after}
 use Rattle.planning.proofs.Dimension.{rank-which, span-le, spread, spread-inj, spread-lt, spread-only}
 use Rattle.planning.proofs.Marks.{marks-one}
 use Rattle.planning.proofs.Parts.{phi-comb}
 use Rattle.planning.proofs.Round.{Sound, nonzero}
-use Rattle.planning.proofs.Rounds.{AllP, Good, after-good, pass-moves, rounds-good, rounds-length, rounds-move, rounds-some, up-zero}
+use Rattle.planning.proofs.Rounds.{Good, after-good, idle, pass-moves, rounds-good, rounds-length, rounds-move, rounds-stop, up-le}
+use Rattle.planning.proofs.Runs.{MatrixRuns}
 use Rattle.planning.proofs.Step1.{delta-regular, shr-below}
-use Rattle.planning.proofs.Step2.{after-length, delta-moved, moved-rank, operations-length, operations-low, operations-lt, operations-twice, undo-operations}
+use Rattle.planning.proofs.Step2.{after-length, delta-moved, moved-rank, operations-length, operations-low, operations-lt, operations-twice, undone-operations}
 use Rattle.planning.specs.Columns.{after, phi, undone}
 use Rattle.planning.specs.Making.{dividedUp, firstAfter, operations, passMatrices, rounds}
-use Rattle.planning.specs.Pass.{performed}
+use Rattle.planning.specs.Pass.{complemented, performed}
 
 -- a good pass can run
-pub good-runs : (n b m : ℕ) (p : List ℕ) → m ≤ n → Good n b m p → Runs n b m (columns n p)
+pub good-runs : (n b m : ℕ) (p : List ℕ) → m ≤ n → Good n b m p → MatrixRuns n b m (columns n p)
 good-runs n b m p hm g = record {
-  rows = columns-length n p;
+  all = columns-length n p;
   small = λ i. columns-lt n p i (omega (arith, g .long));
   regular = unfold singular in none-intro (kills (columns n p)) (2 ^ n) (λ z h. go z h (kills (columns n p) z) refl);
   dry = dry-by-bits b m (columns n p) (λ z h e.
@@ -44,7 +48,7 @@ good-runs n b m p hm g = record {
     go z h true q = let k = kills-elim (columns n p) z q in absurd (omega (arith, k .0, g .regular z h (sym (apply-transpose p n z (g .small z)) ∙ k .1)))
     go z h false q = refl
 
-good-run-all : (n b m : ℕ) → m ≤ n → (ps : List (List ℕ)) → AllP (Good n b m) ps → AllP (Runs n b m) (map (columns n) ps)
+good-run-all : (n b m : ℕ) → m ≤ n → (ps : List (List ℕ)) → All (Good n b m) ps → All (MatrixRuns n b m) (map (columns n) ps)
 good-run-all n b m hm [] g = tt
 good-run-all n b m hm (p ∷ ps) g = (good-runs n b m p hm (g .0), good-run-all n b m hm ps (g .1))
 
@@ -89,20 +93,20 @@ module _ (n b m : ℕ) (hb : b < m) (hm : m ≤ n) (rows : List ℕ) (hr : lengt
   enough : nonzero m moved ≤ m
   enough = omega (arith, moved-nonzero, rank-le (phi m cols) m)
 
-  all-good : AllP (Good n b m) (firstAfter (rounds m n b m moved) (undone n P))
+  all-good : All (Good n b m) (firstAfter (rounds m n b m moved) (undone n P))
   all-good = go (rounds m n b m moved) (rounds-good n b m (omega arith) hm hb m moved moved-sound enough)
     where
-      go : (ps : List (List ℕ)) → AllP (Good n b m) ps → AllP (Good n b m) (firstAfter ps (undone n P))
+      go : (ps : List (List ℕ)) → All (Good n b m) ps → All (Good n b m) (firstAfter ps (undone n P))
       go [] g = unfold firstAfter in tt
       go (p ∷ ps) g =
           unfold firstAfter in (
-            subst (λ (q : List ℕ). Good n b m (after p q)) (sym (undo-operations n m hm cols))
+            subst (λ (q : List ℕ). Good n b m (after p q)) (sym (undone-operations n m hm cols))
                 (after-good n b m (omega arith) hm p P (g .0) (operations-length n m hm cols) (operations-lt n m hm cols) P-regular (operations-low n m hm cols)),
             g .1,
           )
 
   -- every pass can run
-  pub plan-runs : AllP (Runs n b m) (passMatrices n b m rows)
+  pub plan-runs : All (MatrixRuns n b m) (passMatrices n b m rows)
   unfolding passMatrices
   plan-runs = good-run-all n b m hm (firstAfter (rounds m n b m moved) (undone n P)) all-good
 
@@ -113,31 +117,28 @@ module _ (n b m : ℕ) (hb : b < m) (hm : m ≤ n) (rows : List ℕ) (hr : lengt
       length-map (firstAfter (rounds m n b m moved) (undone n P)) (columns n) ∙ first-length (rounds m n b m moved) (undone n P)
       ∙ rounds-length n b m (omega arith) hm hb m moved moved-sound enough ∙ ap (λ (u : ℕ). suc (dividedUp u (m - b))) moved-nonzero
 
-  -- the passes with their complements, performed in order, take every x to A x xor c
-  pub plan-moves : (c x : ℕ) → x < 2 ^ n → performed (passMatrices n b m rows) (complements (length (passMatrices n b m rows)) c) x ≡ target rows c x
+  -- the passes with their complements, performed in order, take every x to Ax xor c
+  pub plan-moves : (c x : ℕ) → x < 2 ^ n → performed (complemented (passMatrices n b m rows) c) x ≡ target rows c x
   unfolding passMatrices
   plan-moves c x h =
-      ap (λ (k : ℕ). performed (map (columns n) (firstAfter (rounds m n b m moved) (undone n P))) (complements k c) x) (length-map (firstAfter (rounds m n b m moved) (undone n P)) (columns n) ∙ first-length (rounds m n b m moved) (undone n P))
-      ∙ go (rounds m n b m moved) (rounds-some n b m (omega arith) hm m moved) (rounds-good n b m (omega arith) hm hb m moved moved-sound enough) (complements (length (rounds m n b m moved)) c)
+      ap (λ (q : List ℕ). performed (complemented (map (columns n) (firstAfter (rounds m n b m moved) q)) c) x) (undone-operations n m hm cols)
+      ∙ go (rounds m n b m moved) (omega (arith, rounds-length n b m (omega arith) hm hb m moved moved-sound enough)) (rounds-good n b m (omega arith) hm hb m moved moved-sound enough)
       ∙ rounds-move n b m (omega arith) hm m moved moved-sound c (comb P x) (operations-lt n m hm cols x h)
       ∙ ap (λ (u : ℕ). bitXor u c) (comb-after cols P (comb P x) ∙ ap (comb cols) (operations-twice n m hm cols x h) ∙ apply-columns n rows x h) ∙ is-target
     where
       is-target : bitXor (apply rows x) c ≡ target rows c x
       is-target = unfold target in refl
 
-      go : (ps : List (List ℕ)) → 0 < length ps → AllP (Good n b m) ps → (cs : List ℕ)
-          → performed (map (columns n) (firstAfter ps (undone n P))) cs x ≡ performed (map (columns n) ps) cs (comb P x)
-      go ps hp g cs = ap (λ (q : List ℕ). performed (map (columns n) (firstAfter ps q)) cs x) (undo-operations n m hm cols) ∙ on ps hp g cs
-        where
-          same : (p : List ℕ) → Good n b m p → (c : ℕ) → target (columns n (after p P)) c x ≡ target (columns n p) c (comb P x)
-          same p g c =
-              pass-moves n b m (omega arith) hm (after p P) c x (subst (λ (u : ℕ). u < 2 ^ n) (sym (comb-after p P x)) (g .small (comb P x)))
-              ∙ ap (λ (u : ℕ). bitXor u c) (comb-after p P x) ∙ sym (pass-moves n b m (omega arith) hm p c (comb P x) (g .small (comb P x)))
+      same : (p : List ℕ) → Good n b m p → (d : ℕ) → target (columns n (after p P)) d x ≡ target (columns n p) d (comb P x)
+      same p g d =
+          pass-moves n b m (omega arith) hm (after p P) d x (subst (λ (u : ℕ). u < 2 ^ n) (sym (comb-after p P x)) (g .small (comb P x)))
+          ∙ ap (λ (u : ℕ). bitXor u d) (comb-after p P x) ∙ sym (pass-moves n b m (omega arith) hm p d (comb P x) (g .small (comb P x)))
 
-          on : (ps : List (List ℕ)) → 0 < length ps → AllP (Good n b m) ps → (cs : List ℕ) → performed (map (columns n) (firstAfter ps P)) cs x ≡ performed (map (columns n) ps) cs (comb P x)
-          on [] hp g cs = absurd (omega (arith, hp))
-          on (p ∷ ps) hp g [] = unfold firstAfter performed in ap (performed (map (columns n) ps) []) (same p (g .0) 0)
-          on (p ∷ ps) hp g (d ∷ cs) = unfold firstAfter performed in ap (performed (map (columns n) ps) cs) (same p (g .0) d)
+      go : (ps : List (List ℕ)) → 0 < length ps → All (Good n b m) ps
+          → performed (complemented (map (columns n) (firstAfter ps P)) c) x ≡ performed (complemented (map (columns n) ps) c) (comb P x)
+      go [] hp g = absurd (omega (arith, hp))
+      go (p ∷ []) hp g = unfold firstAfter complemented performed in same p (g .0) c
+      go (p ∷ q ∷ ps) hp g = unfold firstAfter complemented performed in ap (performed (complemented (columns n q ∷ map (columns n) ps) c)) (same p (g .0) 0)
 
   -- rank φ is at most m and at most n - m
   pub rank-low : rank (phi m cols) m ≤ n - m
@@ -151,24 +152,40 @@ module _ (n b m : ℕ) (hb : b < m) (hm : m ≤ n) (rows : List ℕ) (hr : lengt
       ))
       (λ x y hx hy e. spread-inj (marked (phi m cols)) m x y hx hy (marks-one (phi m cols) m (spread (marked (phi m cols)) m x) (spread (marked (phi m cols)) m y) (spread-lt (marked (phi m cols)) m x) (spread-lt (marked (phi m cols)) m y) (spread-only (marked (phi m cols)) m x) (spread-only (marked (phi m cols)) m y) e)))
 
-  up-le : (a k : ℕ) → 0 < k → dividedUp a k ≤ a
-  unfolding dividedUp
-  up-le a k h = ⊎-elim (λ (z : a ≤ 0). omega (arith, ap (λ (u : ℕ). dividedUp u k) (native.Mathlib.Nat.le-antisymm z (omega arith)) ∙ up-zero k h)) (λ (z : 0 < a). div-le-of-le-mul k (big a k z h)) (le-or-lt a 0)
-    where
-      big : (a k : ℕ) → 0 < a → 0 < k → a + (k - 1) ≤ k * a
-      big zero k p q = absurd (omega arith)
-      big (suc zero) k p q = omega (arith, native.Mathlib.Nat.mul-one k)
-      big (suc (suc a)) k p q = omega (arith, big (suc a) k (omega arith) q, native.Mathlib.Nat.mul-suc k (suc a))
-
-  -- at least one pass; at most 13 for n to 24, at most 17 for n to 32
+  -- at least one pass, and at most half of n and one more
   pub plan-some : 0 < length (passMatrices n b m rows)
   plan-some = omega (arith, plan-length)
 
   pub plan-half : 2 * length (passMatrices n b m rows) ≤ n + 2
   plan-half = omega (arith, plan-length, up-le (rank (phi m cols) m) (m - b) (omega arith), rank-low, rank-le (phi m cols) m)
 
-  pub plan-13 : n ≤ 24 → length (passMatrices n b m rows) ≤ 13
-  plan-13 h = omega (arith, plan-half)
+-- ---- with no rounds the only pass is A
+-- the rows of the matrix whose columns are those of A
+pub rows-back : (n : ℕ) (rows q : List ℕ) → length rows ≡ n → ((i : ℕ) → getD rows i 0 < 2 ^ n) → length q ≡ n → ((j : ℕ) → j < n → comb q (2 ^ j) ≡ apply rows (2 ^ j)) → columns n q ≡ rows
+rows-back n rows q hr hs hq e =
+    ext-getD 0 (columns n q) rows (columns-length n q ∙ sym hr)
+    (λ i h.
+    let hi : i < n = subst (λ (k : ℕ). i < k) (columns-length n q) h in
+    bits-same n (getD (columns n q) i 0) (getD rows i 0) (columns-lt n q i (omega (arith, hq))) (hs i)
+    (λ j l.
+    ap (λ (k : ℕ). bit k j) (columns-at n q i hi) ∙ apply-bit q (2 ^ i) j ∙ ap parity (and-comm (getD q j 0) (2 ^ i)) ∙ dot-unit i (getD q j 0)
+    ∙ ap (λ (k : ℕ). bit k i) (sym (comb-one q j) ∙ e j l) ∙ apply-bit rows (2 ^ j) i ∙ ap parity (and-comm (getD rows i 0) (2 ^ j)) ∙ dot-unit j (getD rows i 0)))
 
-  pub plan-17 : n ≤ 32 → length (passMatrices n b m rows) ≤ 17
-  plan-17 h = omega (arith, plan-half)
+pub plan-none : (n b m : ℕ) → b < m → m ≤ n → (rows : List ℕ) → length rows ≡ n → ((i : ℕ) → getD rows i 0 < 2 ^ n) → singular n rows ≡ false
+    → rank (phi m (columns n rows)) m ≡ 0 → passMatrices n b m rows ≡ rows ∷ []
+unfolding passMatrices firstAfter
+plan-none n b m hb hm rows hr hl hs e =
+    ap (λ (l : List (List ℕ)). map (columns n) (firstAfter l (undone n P))) (rounds-stop m n b m moved (idle m moved (moved-nonzero n b m hb hm rows hr hs ∙ e)))
+    ∙ ap (λ (l : List ℕ). l ∷ []) (ap (λ (q : List ℕ). columns n (after moved q)) (undone-operations n m hm cols)
+    ∙ rows-back n rows (after moved P) hr hl (after-length moved P ∙ operations-length n m hm cols)
+    (λ j h.
+    comb-after moved P (2 ^ j) ∙ comb-after cols P (comb P (2 ^ j)) ∙ ap (comb cols) (operations-twice n m hm cols (2 ^ j) (pow-lt h)) ∙ apply-columns n rows (2 ^ j) (pow-lt h)))
+  where
+    cols : List ℕ
+    cols = columns n rows
+
+    P : List ℕ
+    P = operations n m cols
+
+    moved : List ℕ
+    moved = after cols P

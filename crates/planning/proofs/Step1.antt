@@ -12,15 +12,15 @@ use lib.Dec.{eqb}
 use lib.ListN.{getD, length, length-map}
 use lib.Bits.{bitXor, xor-comm, xor-lt, xor-self, xor-shr, xor-zero-r}
 use borrow.Author.Tests.{eq-eqb, eqb-false, eqb-true, ne-eqb, not-false, not-true}
-use Rattle.algebra.proofs.Digits.{bit-lt, bit-xor, bit-zero, times-add, times-zero, xor-assoc, xor-cancel-r, xor-eq, xor-move, xor4}
+use Rattle.algebra.proofs.Digits.{bit-lt, bit-xor, bit-zero, times-add, times-zero, xor-assoc, xor-cancel-r, xor-eq, xor-move, xor4, bit-times, times-one}
 use Rattle.algebra.proofs.Linear.{comb-linear, comb-one, comb-xor, comb-zero}
 use Rattle.algebra.proofs.Pigeon.{covers}
 use Rattle.algebra.proofs.Search.{and-r, le-or-lt, some-elim, some-intro}
 use Rattle.algebra.specs.Matrix.{marked}
 use Rattle.algebra.specs.Search.{listed, some, which}
 use Rattle.algebra.specs.Vector.{bit, comb, times}
-use Rattle.planning.proofs.Acts.{All, Asc, adding-is, adding-lt, adding-twice, all-mono, bit-above, comb-after, each-at, linear-ext, sum-none, times-no, which-all, which-asc, which-holds, which-member}
-use Rattle.planning.proofs.Dimension.{bit-times, span-le, spread, spread-all, spread-inj, spread-lt, spread-only, times-none, times-one, which-not}
+use Rattle.planning.proofs.Acts.{All, Asc, adding-is, adding-lt, adding-twice, all-mono, bit-above, comb-after, listed-at, linear-ext, sum-none, times-no, which-all, which-asc, which-holds, which-member}
+use Rattle.planning.proofs.Dimension.{span-le, spread, spread-all, spread-inj, spread-lt, spread-only, times-none, which-not}
 use Rattle.planning.proofs.Marks.{Only, bit-pow, bit-pow-other, indep, marks-indep, marks-span, only-intro, only-xor, spans}
 use Rattle.planning.proofs.Parts.{delta-comb, lower-parts, phi-comb}
 use Rattle.planning.specs.Columns.{after, delta, onlyMarked, phi}
@@ -75,7 +75,7 @@ pair-at (u ∷ us) (w ∷ ws) j a = go (eqb j u) refl (pair-at us ws j (a .1))
 pub pair-is : (us ws : List ℕ) (n x : ℕ) → Asc us → x < 2 ^ n → comb (listed (mate us ws) n 0) x ≡ pairsum us ws x
 pair-is us ws n x a h =
     linear-ext (comb (listed (mate us ws) n 0)) (pairsum us ws) (comb-linear (listed (mate us ws) n 0)) (record { none = pair-none us ws; sum = pair-xor us ws }) n
-    (λ j l. comb-one (listed (mate us ws) n 0) j ∙ each-at (mate us ws) n 0 j l ∙ ap (mate us ws) (zero-add j) ∙ sym (pair-at us ws j a)) x h
+    (λ j l. comb-one (listed (mate us ws) n 0) j ∙ listed-at 0 (mate us ws) n 0 j l ∙ ap (mate us ws) (zero-add j) ∙ sym (pair-at us ws j a)) x h
 
 pub pair-off : (us ws : List ℕ) (x i : ℕ) → All (λ w. i ≡ w → ⊥) ws → bit (pairsum us ws x) i ≡ 0
 unfolding pairsum
@@ -372,7 +372,7 @@ module _ (n m : ℕ) (hm : m ≤ n) (cols : List ℕ) where
         let hx : x < 2 ^ n = shl-below n m t hm h in
         let g = comb (listed add1 n 0) x in
         let gp : g ≡ pairsum (unmarked n m cols) (chosen n m cols) x = pair-is (unmarked n m cols) (chosen n m cols) n x us-asc hx in
-        let gl : g < 2 ^ m = Rattle.planning.proofs.Acts.each-lt add1 m n 0 x (λ j l. add1-lt j) in
+        let gl : g < 2 ^ m = Rattle.planning.proofs.Acts.listed-lt add1 m n 0 x (λ j l. add1-lt j) in
         let sum : bitXor (comb (delta m cols) t) (comb (phi m cols) g) ≡ 0
         = ap₂ bitXor (delta-comb m cols t) (phi-comb m cols g gl)
         ∙ sym (delta-comb m (after cols (step1 n m cols)) t ∙ ap (λ (k : ℕ). k / 2 ^ m) (comb-after cols (step1 n m cols) x ∙ ap (comb cols) (step1-is x hx) ∙ comb-xor cols x g) ∙ xor-shr (comb cols x) (comb cols g) m)

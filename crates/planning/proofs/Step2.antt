@@ -18,7 +18,7 @@ use Rattle.algebra.proofs.Search.{and-l, and-r, found-lt, le-or-lt, least-holds
 use Rattle.algebra.specs.Matrix.{marked, rank}
 use Rattle.algebra.specs.Search.{firstOf, least, listed, some, which}
 use Rattle.algebra.specs.Vector.{bit, comb, times}
-use Rattle.planning.proofs.Acts.{All, adding-at, adding-is, adding-lt, adding-twice, all-mono, bit-above, bit-shifted, comb-after, each-at, each-length, each-lt, first-lt, sum-none, times-no, which-holds}
+use Rattle.planning.proofs.Acts.{All, adding-at, adding-is, adding-lt, adding-twice, all-mono, bit-above, bit-shifted, comb-after, listed-at, listed-length, listed-lt, first-lt, sum-none, times-no, which-holds}
 use Rattle.planning.proofs.Dimension.{rank-which, which-ext}
 use Rattle.planning.proofs.Marks.{Only, marked-nonzero, marks-one, marks-span, only-elim, only-intro, only-more, unmarked-elim}
 use Rattle.planning.proofs.Parts.{delta-comb, phi-at, phi-comb}
@@ -142,7 +142,7 @@ module _ (m : ℕ) (cols : List ℕ) where
     pub step2-low : (x : ℕ) → x < 2 ^ m → comb (step2 n m cols) x < 2 ^ m
     step2-low x h =
         subst (λ (k : ℕ). k < 2 ^ m) (sym (step2-is x (lt-of-lt-of-le h (pow-mono hm))))
-        (xor-lt m x (comb (listed (summands m cols) n 0) x) h (each-lt (summands m cols) m n 0 x (λ j l. summands-lt j)))
+        (xor-lt m x (comb (listed (summands m cols) n 0) x) h (listed-lt (summands m cols) m n 0 x (λ j l. summands-lt j)))
 
     -- the columns from m on stay
     pub step2-high : (t : ℕ) → t < 2 ^ (n - m) → comb (step2 n m cols) (t * 2 ^ m) ≡ t * 2 ^ m
@@ -167,21 +167,21 @@ module _ (m : ℕ) (cols : List ℕ) where
         ∙ sym (phi-at m cols j h)
 
     -- zero below: exactly the unmarked ones
-    pub step2-blank : (j : ℕ) → j < m → not (zeroColumn (phi m (after cols (step2 n m cols))) j) ≡ marked (phi m cols) j
+    pub step2-zero : (j : ℕ) → j < m → not (zeroColumn (phi m (after cols (step2 n m cols))) j) ≡ marked (phi m cols) j
     unfolding zeroColumn
-    step2-blank j h = go (marked (phi m cols) j) refl
+    step2-zero j h = go (marked (phi m cols) j) refl
       where
         go : (b : Bool) → marked (phi m cols) j ≡ b → not (eqb (getD (phi m (after cols (step2 n m cols))) j 0) 0) ≡ b
         go true e = ap not (ne-eqb (getD (phi m (after cols (step2 n m cols))) j 0) 0 (λ q. marked-nonzero (phi m cols) m j e (sym (step2-marked j h e) ∙ q)))
         go false e = ap not (eq-eqb (getD (phi m (after cols (step2 n m cols))) j 0) 0 (step2-unmarked j h e))
 
 -- ---- a matrix that undoes itself is its own inverse
-pub undo-self : (n : ℕ) (q : List ℕ) → length q ≡ n → ((x : ℕ) → x < 2 ^ n → comb q x < 2 ^ n) → ((x : ℕ) → x < 2 ^ n → comb q (comb q x) ≡ x) → undone n q ≡ q
+pub undone-self : (n : ℕ) (q : List ℕ) → length q ≡ n → ((x : ℕ) → x < 2 ^ n → comb q x < 2 ^ n) → ((x : ℕ) → x < 2 ^ n → comb q (comb q x) ≡ x) → undone n q ≡ q
 unfolding undone
-undo-self n q l lt twice =
-    ext-getD 0 (listed inv n 0) q (each-length inv n 0 ∙ sym l)
-    (λ i h. let hi : i < n = subst (λ (k : ℕ). i < k) (each-length inv n 0) h in
-    each-at inv n 0 i hi ∙ ap inv (zero-add i) ∙ is i hi)
+undone-self n q l lt twice =
+    ext-getD 0 (listed inv n 0) q (listed-length inv n 0 ∙ sym l)
+    (λ i h. let hi : i < n = subst (λ (k : ℕ). i < k) (listed-length inv n 0) h in
+    listed-at 0 inv n 0 i hi ∙ ap inv (zero-add i) ∙ is i hi)
   where
     inv : ℕ → ℕ
     inv j = least (λ x. eqb (comb q x) (2 ^ j)) (2 ^ n)
@@ -219,7 +219,7 @@ module _ (n m : ℕ) (hm : m ≤ n) (cols : List ℕ) where
 
   pub operations-length : length (operations n m cols) ≡ n
   unfolding operations step2 adding
-  operations-length = after-length (step1 n m cols) (step2 n m one) ∙ each-length (λ j. bitXor (2 ^ j) (summands m one j)) n 0
+  operations-length = after-length (step1 n m cols) (step2 n m one) ∙ listed-length (λ j. bitXor (2 ^ j) (summands m one j)) n 0
 
   -- the numbers below 2 ^ m stay among themselves
   pub operations-low : (x : ℕ) → x < 2 ^ m → comb (operations n m cols) x < 2 ^ m
@@ -236,11 +236,11 @@ module _ (n m : ℕ) (hm : m ≤ n) (cols : List ℕ) where
 
   G1-lt : (x : ℕ) → G1 x < 2 ^ m
   unfolding G1
-  G1-lt x = each-lt (add1 n m hm cols) m n 0 x (λ j l. add1-lt n m hm cols j)
+  G1-lt x = listed-lt (add1 n m hm cols) m n 0 x (λ j l. add1-lt n m hm cols j)
 
   G2-lt : (x : ℕ) → G2 x < 2 ^ m
   unfolding G2
-  G2-lt x = each-lt (summands m one) m n 0 x (λ j l. summands-lt m one j)
+  G2-lt x = listed-lt (summands m one) m n 0 x (λ j l. summands-lt m one j)
 
   G1-low : (x : ℕ) → x < 2 ^ m → G1 x ≡ 0
   unfolding G1
@@ -290,8 +290,8 @@ module _ (n m : ℕ) (hm : m ≤ n) (cols : List ℕ) where
       twice-zero x = Rattle.planning.proofs.Acts.twice-zero (summands m one) n (λ j l. lt-of-lt-of-le (summands-lt m one j) (pow-mono hm)) (summands-nil m one) x
 
   -- so P⁻¹ is P
-  pub undo-operations : undone n (operations n m cols) ≡ operations n m cols
-  undo-operations = undo-self n (operations n m cols) operations-length operations-lt operations-twice
+  pub undone-operations : undone n (operations n m cols) ≡ operations n m cols
+  undone-operations = undone-self n (operations n m cols) operations-length operations-lt operations-twice
 
   -- A P, as A with step 1 and then step 2
   pub moved-is : (x : ℕ) → comb (after cols (operations n m cols)) x ≡ comb (after one (step2 n m one)) x
@@ -302,14 +302,14 @@ module _ (n m : ℕ) (hm : m ≤ n) (cols : List ℕ) where
   phi-moved j h = phi-at m (after cols (operations n m cols)) j h ∙ ap (λ (k : ℕ). k / 2 ^ m) (moved-is (2 ^ j)) ∙ sym (phi-at m (after one (step2 n m one)) j h)
 
   -- the nonzero columns of φ in A P are those marked in A
-  pub moved-blank : (j : ℕ) → j < m → not (zeroColumn (phi m (after cols (operations n m cols))) j) ≡ marked (phi m cols) j
+  pub moved-zero : (j : ℕ) → j < m → not (zeroColumn (phi m (after cols (operations n m cols))) j) ≡ marked (phi m cols) j
   unfolding zeroColumn
-  moved-blank j h = ap (λ (k : ℕ). not (eqb k 0)) (phi-moved j h) ∙ step2-blank m one n hm j h ∙ marked-one j h
+  moved-zero j h = ap (λ (k : ℕ). not (eqb k 0)) (phi-moved j h) ∙ step2-zero m one n hm j h ∙ marked-one j h
 
   -- and number rank φ
   pub moved-rank : length (which (λ j. not (zeroColumn (phi m (after cols (operations n m cols))) j)) m 0) ≡ rank (phi m cols) m
   moved-rank =
-      ap length (which-ext (λ j. not (zeroColumn (phi m (after cols (operations n m cols))) j)) (marked (phi m cols)) m 0 (λ i a b. moved-blank i (omega arith)))
+      ap length (which-ext (λ j. not (zeroColumn (phi m (after cols (operations n m cols))) j)) (marked (phi m cols)) m 0 (λ i a b. moved-zero i (omega arith)))
       ∙ sym (rank-which (phi m cols) m)
 
   -- δ of A P is δ after step 1
