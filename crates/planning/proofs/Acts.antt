@@ -130,6 +130,15 @@ module _ {A : Type 0} where
   All P [] = Unit {0}
   All P (x ∷ xs) = P x × All P xs
 
+  pub all-at : (d : A) (P : A → Type 0) (xs : List A) → All P xs → (i : ℕ) → i < length xs → P (getD xs i d)
+  all-at d P [] a i h = absurd (not-suc-le-zero h)
+  all-at d P (x ∷ xs) a zero h = a .0
+  all-at d P (x ∷ xs) a (suc i) h = all-at d P xs (a .1) i (le-of-suc-le-suc h)
+
+  pub at-all : (d : A) (P : A → Type 0) (xs : List A) → ((i : ℕ) → i < length xs → P (getD xs i d)) → All P xs
+  at-all d P [] f = tt
+  at-all d P (x ∷ xs) f = (f 0 (omega arith), at-all d P xs (λ i h. f (suc i) (omega arith)))
+
 abbrev pub Asc : List ℕ → Type 0
 Asc [] = Unit {0}
 Asc (x ∷ xs) = All (λ y. x < y) xs × Asc xs

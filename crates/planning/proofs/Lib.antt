@@ -9,5 +9,6 @@ pub mod Round
 pub mod Rounds
 pub mod Run
 pub mod Bound
+pub mod Stored
 pub mod Bridges
 pub mod Snoc
