@@ -10,5 +10,6 @@ pub mod Rounds
 pub mod Run
 pub mod Bound
 pub mod Stored
+pub mod Running
 pub mod Bridges
 pub mod Snoc
