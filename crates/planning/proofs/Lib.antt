@@ -11,5 +11,6 @@ pub mod Run
 pub mod Bound
 pub mod Stored
 pub mod Running
+pub mod Made
 pub mod Bridges
 pub mod Snoc

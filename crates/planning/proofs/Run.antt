@@ -161,17 +161,17 @@ module _ (n b m : ℕ) (hb : b < m) (hm : m ≤ n) (rows : List ℕ) (hr : lengt
 
 -- ---- with no rounds the only pass is A
 -- the rows of the matrix whose columns are those of A
-pub rows-back : (n : ℕ) (rows q : List ℕ) → length rows ≡ n → ((i : ℕ) → getD rows i 0 < 2 ^ n) → length q ≡ n → ((j : ℕ) → j < n → comb q (2 ^ j) ≡ apply rows (2 ^ j)) → columns n q ≡ rows
+pub rows-back : (n : ℕ) (rows q : List ℕ) → length rows ≡ n → ((i : ℕ) → i < n → getD rows i 0 < 2 ^ n) → length q ≡ n → ((j : ℕ) → j < n → comb q (2 ^ j) ≡ apply rows (2 ^ j)) → columns n q ≡ rows
 rows-back n rows q hr hs hq e =
     ext-getD 0 (columns n q) rows (columns-length n q ∙ sym hr)
     (λ i h.
     let hi : i < n = subst (λ (k : ℕ). i < k) (columns-length n q) h in
-    bits-same n (getD (columns n q) i 0) (getD rows i 0) (columns-lt n q i (omega (arith, hq))) (hs i)
+    bits-same n (getD (columns n q) i 0) (getD rows i 0) (columns-lt n q i (omega (arith, hq))) (hs i hi)
     (λ j l.
     ap (λ (k : ℕ). bit k j) (columns-at n q i hi) ∙ apply-bit q (2 ^ i) j ∙ ap parity (and-comm (getD q j 0) (2 ^ i)) ∙ dot-unit i (getD q j 0)
     ∙ ap (λ (k : ℕ). bit k i) (sym (comb-one q j) ∙ e j l) ∙ apply-bit rows (2 ^ j) i ∙ ap parity (and-comm (getD rows i 0) (2 ^ j)) ∙ dot-unit j (getD rows i 0)))
 
-pub plan-none : (n b m : ℕ) → b < m → m ≤ n → (rows : List ℕ) → length rows ≡ n → ((i : ℕ) → getD rows i 0 < 2 ^ n) → singular n rows ≡ false
+pub plan-none : (n b m : ℕ) → b < m → m ≤ n → (rows : List ℕ) → length rows ≡ n → ((i : ℕ) → i < n → getD rows i 0 < 2 ^ n) → singular n rows ≡ false
     → rank (phi m (columns n rows)) m ≡ 0 → passMatrices n b m rows ≡ rows ∷ []
 unfolding passMatrices firstAfter
 plan-none n b m hb hm rows hr hl hs e =

@@ -152,10 +152,10 @@ and-never true b f = f refl
 and-never false b f = refl
 
 module _ (route : Route) (k : Runs route) where
-  g : Geometry
+  abbrev g : Geometry
   g = route .geometry
 
-  ps : List Pass
+  abbrev ps : List Pass
   ps = route .passes
 
   pub runs-back : routeOf (planOf route) ≡ route
@@ -163,27 +163,22 @@ module _ (route : Route) (k : Runs route) where
 
   -- past the passes, and past the rows of a pass, the rows are zero
   zero-past : (p i : ℕ) → length ps ≤ p → getD (passIn ps p .rows) i 0 ≡ 0
-  unfolding ps
   zero-past p i h = ap (λ (q : Pass). getD (q .rows) i 0) (List·getD-eq-default ps (record { rows = []; complement = 0 }) h)
 
   zero-above : (p i : ℕ) → g .n ≤ i → getD (passIn ps p .rows) i 0 ≡ 0
-  unfolding ps g
   zero-above p i h =
       ⊎-elim (λ (l : length ps ≤ p). zero-past p i l)
       (λ (l : p < length ps). List·getD-eq-default (passIn ps p .rows) 0 (omega (arith, k .each-runs p l .rows-all))) (le-or-lt (length ps) p)
 
   counted : leb 1 (length ps) && leb (length ps) PASSES ≡ true
-  unfolding ps
   counted = and-both (leb 1 (length ps)) (leb (length ps) PASSES) (le-leb 1 (length ps) (k .some-pass)) (le-leb (length ps) PASSES (k .few-passes))
 
   no-stray-row : (p i : ℕ) → p < length ps → i < g .n → leb (records g) (getD (storedRows PASSES ROWS ps) (p * ROWS + i) 0) ≡ false
-  unfolding ps g
   no-stray-row p i hp hi =
       lt-leb (records g) (getD (storedRows PASSES ROWS ps) (p * ROWS + i) 0)
       (subst (λ (x : ℕ). x < records g) (sym (stored-row PASSES ROWS ps p i (omega (arith, k .few-passes)) (omega (arith, k .allowed .n-high)))) (k .each-runs p hp .rows-within i hi))
 
   no-stray-complement : (p : ℕ) → p < length ps → leb (records g) (getD (storedComplements PASSES ps) p 0) ≡ false
-  unfolding ps g
   no-stray-complement p hp =
       lt-leb (records g) (getD (storedComplements PASSES ps) p 0)
       (subst (λ (x : ℕ). x < records g) (sym (stored-complement PASSES ROWS ps p (omega (arith, k .few-passes)))) (k .each-runs p hp .complement-within))
@@ -203,16 +198,16 @@ module _ (route : Route) (k : Runs route) where
   pub runs→sound : sound (planOf route) ≡ true
   runs→sound = checked→sound (planOf route) (record {
     limits = unfold planOf in allowed→limits (route .geometry) (k .allowed);
-    count = unfold planOf countInLimits ps in counted;
-    rows-within = unfold planOf strayRow ps g in
+    count = unfold planOf countInLimits in counted;
+    rows-within = unfold planOf strayRow in
         none-intro (λ p. some (λ i. leb (records g) (getD (storedRows PASSES ROWS ps) (p * ROWS + i) 0)) (g .n)) (length ps)
         (λ p hp. none-intro (λ i. leb (records g) (getD (storedRows PASSES ROWS ps) (p * ROWS + i) 0)) (g .n) (λ i hi. no-stray-row p i hp hi));
-    complements-within = unfold planOf strayComplement ps g in
+    complements-within = unfold planOf strayComplement in
         none-intro (λ p. leb (records g) (getD (storedComplements PASSES ps) p 0)) (length ps) (λ p hp. no-stray-complement p hp);
-    rows-zero = unfold planOf spareRow spare ps g in
+    rows-zero = unfold planOf spareRow spare in
         none-intro (λ q. (leb (length ps) (q / ROWS) || leb (g .n) (q % ROWS)) && not (eqb (getD (storedRows PASSES ROWS ps) q 0) 0)) (PASSES * ROWS)
         (λ q h. and-never (leb (length ps) (q / ROWS) || leb (g .n) (q % ROWS)) (not (eqb (getD (storedRows PASSES ROWS ps) q 0) 0)) (no-spare-row q h));
-    complements-zero = unfold planOf spareComplement ps in
+    complements-zero = unfold planOf spareComplement in
         none-intro (λ p. leb (length ps) p && not (eqb (getD (storedComplements PASSES ps) p 0) 0)) PASSES
         (λ p h. and-never (leb (length ps) p) (not (eqb (getD (storedComplements PASSES ps) p 0) 0)) (no-spare-complement p h));
     regular = regular;
