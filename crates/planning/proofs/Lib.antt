@@ -14,3 +14,4 @@ pub mod Running
 pub mod Made
 pub mod Bridges
 pub mod Snoc
+pub mod Main
