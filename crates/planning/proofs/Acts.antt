@@ -1,9 +1,9 @@
 -- What do adding, placing and products of columns do? Assumes nothing.
 use mathlib.Core.Path.{_∙_, _≡_, ap, ap₂, refl, subst, sym}
-use mathlib.Core.Bool.{Bool, false, false≢true, not, true}
+use mathlib.Core.Bool.{Bool, false, false≢true, true}
 use mathlib.Core.Logic.{_⊎_, inl, inr, ⊎-elim}
 use mathlib.Core.List.{List, [], _∷_, map}
-use Prim.Native.Nat.{_%_, _*_, _+_, _-_, _/_, _<_, _^_, _≤_, suc, zero, ℕ}
+use Prim.Native.Nat.{_%_, _*_, _+_, _/_, _<_, _^_, _≤_, suc, zero, ℕ}
 use native.Mathlib.Nat.{add-zero, div-eq-of-lt, div-one, le-of-suc-le-suc, le-refl, lt-of-lt-of-le, not-suc-le-zero, zero-add}
 use native.Mathlib.Numerals.{add-one}
 use native.Mathlib.Omega.{arith}
@@ -17,7 +17,7 @@ use Rattle.algebra.proofs.Digits.{bit-here, bit-suc, times-lt, times-xor, times
 use Rattle.algebra.proofs.Kernel.{top-digit}
 use Rattle.algebra.proofs.Linear.{Linear, comb-identity, comb-linear, comb-one, comb-xor, comb-zero, linear-comb}
 use Rattle.algebra.proofs.Search.{found-lt, le-or-lt}
-use Rattle.algebra.specs.Matrix.{columns, identity}
+use Rattle.algebra.specs.Matrix.{identity}
 use Rattle.algebra.specs.Search.{firstOf, least, listed, some, which}
 use Rattle.algebra.specs.Vector.{bit, comb, times, units}
 use Rattle.planning.specs.Columns.{adding, after, placing}

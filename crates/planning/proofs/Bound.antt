@@ -1,9 +1,9 @@
 -- How few passes can make an order? Assumes nothing.
 use mathlib.Core.Path.{_∙_, _≡_, ap, ap₂, refl, subst, sym}
-use mathlib.Core.Bool.{false, not, true, true≢false}
-use mathlib.Core.Logic.{_⊎_, ⊎-elim}
+use mathlib.Core.Bool.{false, true≢false}
+use mathlib.Core.Logic.{⊎-elim}
 use mathlib.Core.List.{List, [], _++_, _∷_, map}
-use Prim.Native.Nat.{_%_, _*_, _+_, _-_, _/_, _<_, _^_, _≤_, suc, zero, ℕ}
+use Prim.Native.Nat.{_%_, _*_, _+_, _-_, _/_, _<_, _^_, _≤_, suc, ℕ}
 use native.Mathlib.Nat.{div-lt-iff-lt-mul, le-refl, lt-of-lt-of-le, mod-lt, mul-comm, mul-suc, pow-suc}
 use native.Mathlib.Omega.{arith}
 use lib.Arith.{digits-div, digits-lt, digits-mod}
@@ -17,7 +17,7 @@ use Rattle.algebra.proofs.Linear.{Linear, apply-columns, apply-linear, apply-lt
 use Rattle.algebra.proofs.Parts.{apply-drop}
 use Rattle.algebra.proofs.Search.{le-or-lt}
 use Rattle.algebra.proofs.Spill.{spill-witness}
-use Rattle.algebra.specs.Matrix.{apply, columns, marked, rank, singular, spills, target}
+use Rattle.algebra.specs.Matrix.{apply, columns, marked, rank, spills, target}
 use Rattle.algebra.specs.Search.{which}
 use Rattle.algebra.specs.Vector.{comb, times}
 use Rattle.planning.proofs.Acts.{All, linear-after}
@@ -25,9 +25,8 @@ use Rattle.planning.proofs.Dimension.{powers, rank-which, span-le, spre
 use Rattle.planning.proofs.Marks.{marks-one, marks-span}
 use Rattle.planning.proofs.Parts.{comb-take, lower-linear, parts-xor, phi-comb}
 use Rattle.planning.proofs.Round.{shl-linear}
-use Rattle.planning.proofs.Run.{plan-length}
 use Rattle.planning.specs.Columns.{phi}
-use Rattle.planning.specs.Making.{dividedUp, passMatrices}
+use Rattle.planning.specs.Making.{dividedUp}
 use Rattle.planning.specs.Pass.{Pass, performed}
 
 -- x is a sum of the listed vectors
@@ -196,7 +195,3 @@ module _ (n b m : ℕ) (hb : b < m) (hm : m ≤ n) (rows : List ℕ) (c : ℕ) (
       let k = m - b in
       let q : (r + (k - 1)) / k < suc (length ps) = div-lt-iff-lt-mul {k = k} {x = r + (k - 1)} {y = suc (length ps)} (omega arith) .1 (omega (arith, rank-bound, mul-comm (suc (length ps)) k, mul-suc k (length ps))) in
       omega (arith, q)
-
-  -- ours is never more than one longer
-  pub plan-near : length rows ≡ n → singular n rows ≡ false → length (passMatrices n b m rows) ≤ suc (length ps)
-  plan-near hr hs = omega (arith, plan-length n b m hb hm rows hr hs, passes-bound)

@@ -27,7 +27,7 @@ use Rattle.planning.proofs.Marks.{Only, bit-pow-other, only-xor}
 use Rattle.planning.proofs.Parts.{comb-drop, comb-take, parts-xor}
 use Rattle.planning.proofs.Round.{eraser-one, eraser-right}
 use Rattle.planning.proofs.Step1.{reached-elim, reached-intro}
-use Rattle.planning.proofs.Step2.{G1, G2, one, operations-sum, summands-one}
+use Rattle.planning.proofs.Step2.{G1, G2, operations-sum, summands-one}
 use Rattle.planning.specs.Columns.{adding, after, delta, phi, placing, zeroColumn}
 use Rattle.planning.specs.Making.{chosen, eraser, mate, operations, reached, step1, summands, unmarked}
 

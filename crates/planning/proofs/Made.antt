@@ -1,30 +1,30 @@
 -- What is true of the plan of an order that planning takes? Assumes nothing.
-use Rattle.planning.proofs.Bound.{passes-bound}
-use borrow.Author.Tests.{le-leb}
-use Rattle.planning.proofs.Stored.{route-length}
-use Rattle.planning.proofs.Acts.{all-at, at-all}
-use Rattle.planning.specs.Columns.{phi}
-use lib.Dec.{leb, le→leb}
-use Rattle.planning.proofs.Run.{plan-half, plan-moves, plan-runs, plan-length, plan-none}
-use Rattle.planning.proofs.Running.{runs-back, runs→sound, sound→checked, sound-allowed, sound-dry}
-use Rattle.bank.specs.Limits.{PASSES}
-use Rattle.planning.proofs.Runs.{Runs, MatrixRuns}
-use native.Mathlib.Omega.{arith}
-use Rattle.bank.proofs.Limits.{Allowed, limits→allowed, and-both}
-use Rattle.planning.specs.Stored.{planFor, routeOf}
-use Rattle.planning.specs.Making.{passesFor, passMatrices, dividedUp}
-use lib.Pow.{pow-pos}
-use Rattle.algebra.specs.Matrix.{singular, rank, target, columns, spills}
-use lib.ListN.{length, getD}
-use Rattle.planning.specs.Running.{sound, canRun}
-use Rattle.bank.specs.Geometry.{inLimits}
-use Rattle.planning.specs.Pass.{complemented, passIn, performed, Route, total}
-use Rattle.planning.specs.declared.Plan.{Plan}
-use Rattle.bank.specs.declared.Geometry.{Geometry}
-use mathlib.Core.Path.{_≡_, _∙_, ap, refl, subst, sym}
-use mathlib.Core.Bool.{Bool, true, false}
+use mathlib.Core.Path.{_∙_, _≡_, ap, refl, subst, sym}
+use mathlib.Core.Bool.{false, true}
 use mathlib.Core.List.{List, [], _∷_}
-use Prim.Native.Nat.{ℕ, zero, suc, _+_, _*_, _-_, _^_, _≤_, _<_, zero-le}
+use Prim.Native.Nat.{_+_, _-_, _<_, _^_, _≤_, suc, zero, zero-le, ℕ}
+use native.Mathlib.Omega.{arith}
+use lib.Pow.{pow-pos}
+use lib.Dec.{leb}
+use lib.ListN.{getD, length}
+use borrow.Author.Tests.{le-leb}
+use Rattle.bank.proofs.Limits.{Allowed, and-both, limits→allowed}
+use Rattle.bank.specs.Geometry.{inLimits}
+use Rattle.bank.specs.Limits.{PASSES}
+use Rattle.bank.specs.declared.Geometry.{Geometry}
+use Rattle.algebra.specs.Matrix.{columns, rank, singular, spills, target}
+use Rattle.planning.proofs.Acts.{all-at, at-all}
+use Rattle.planning.proofs.Bound.{passes-bound}
+use Rattle.planning.proofs.Run.{plan-half, plan-length, plan-moves, plan-none, plan-runs}
+use Rattle.planning.proofs.Running.{runs-back, runs→sound, sound-allowed, sound-dry, sound→checked}
+use Rattle.planning.proofs.Runs.{MatrixRuns, Runs}
+use Rattle.planning.proofs.Stored.{route-length}
+use Rattle.planning.specs.Columns.{phi}
+use Rattle.planning.specs.Making.{dividedUp, passMatrices, passesFor}
+use Rattle.planning.specs.Pass.{complemented, passIn, performed, total}
+use Rattle.planning.specs.Running.{canRun, sound}
+use Rattle.planning.specs.Stored.{planFor, routeOf}
+use Rattle.planning.specs.declared.Plan.{Plan}
 
 -- ---- complements
 pub complemented-length : (fs : List (List ℕ)) (c : ℕ) → length (complemented fs c) ≡ length fs

@@ -1,34 +1,34 @@
 -- What is proved of the plan? The statements in the order of "The plan, without choices", then of the plan as a whole. Assumes nothing.
-use Rattle.algebra.proofs.Columns.{columns-lt}
-use Rattle.planning.proofs.Step1.{delta-regular, pairing-total}
-use Rattle.planning.proofs.Made.{runs-bound, made-near, made-few, made-can-run, made-route, made-performs}
-use Rattle.planning.proofs.Rounds.{Ends, rounds-end}
-use Rattle.algebra.proofs.Linear.{comb-lt, apply-columns}
-use Rattle.algebra.proofs.Singular.{regular-zero}
-use Rattle.planning.proofs.Marks.{Only}
-use Rattle.planning.proofs.Step2.{undone-operations, moved-zero, summands-one, summands-right}
-use Rattle.planning.proofs.Running.{runs→sound, runs-back, sound→runs}
-use Rattle.planning.proofs.Run.{moved-sound, moved-nonzero, plan-none, plan-runs, plan-length, plan-moves}
-use Rattle.bank.specs.Limits.{PASSES, ROWS}
-use Rattle.planning.specs.Stored.{routeOf, planOf, planFor}
-use Rattle.planning.specs.Making.{operations, unmarked, passMatrices, swaps, step1, summands, eraser, passesFor, dividedUp, chosen, erases, rounds}
-use Rattle.bank.specs.Geometry.{inLimits}
-use lib.ListN.{length, getD}
-use Rattle.planning.specs.Running.{sound, canRun}
-use native.Mathlib.Omega.{arith}
-use Rattle.planning.proofs.Acts.{All}
-use Rattle.algebra.specs.Matrix.{rank, marked, columns, singular, target}
-use Rattle.planning.specs.Columns.{undone, zeroColumn, after, delta, phi}
-use Rattle.algebra.specs.Vector.{comb}
-use Rattle.bank.specs.declared.Geometry.{Geometry}
-use Rattle.planning.proofs.Round.{Sound, nonzero, pass-is, swapped-sound, next-sound, eraser-one, eraser-right, next-nonzero}
-use Rattle.planning.specs.Pass.{Route, performed, complemented}
-use Rattle.planning.proofs.Runs.{Taken, Runs, MatrixRuns}
-use Rattle.planning.specs.declared.Plan.{Plan}
-use mathlib.Core.Path.{_≡_, _∙_, sym, ap}
+use mathlib.Core.Path.{_∙_, _≡_, ap, sym}
 use mathlib.Core.Bool.{false, not, true}
 use mathlib.Core.List.{List, [], _∷_}
-use Prim.Native.Nat.{ℕ, _*_, _+_, _-_, _<_, _^_, _≤_, mod·zero}
+use Prim.Native.Nat.{_*_, _+_, _-_, _<_, _^_, _≤_, ℕ}
+use native.Mathlib.Omega.{arith}
+use lib.ListN.{getD, length}
+use Rattle.bank.specs.Geometry.{inLimits}
+use Rattle.bank.specs.Limits.{PASSES, ROWS}
+use Rattle.bank.specs.declared.Geometry.{Geometry}
+use Rattle.algebra.proofs.Columns.{columns-lt}
+use Rattle.algebra.proofs.Linear.{apply-columns, comb-lt}
+use Rattle.algebra.proofs.Singular.{regular-zero}
+use Rattle.algebra.specs.Matrix.{columns, marked, rank, singular, target}
+use Rattle.algebra.specs.Vector.{comb}
+use Rattle.planning.proofs.Acts.{All}
+use Rattle.planning.proofs.Made.{made-can-run, made-few, made-near, made-performs, made-route, runs-bound}
+use Rattle.planning.proofs.Marks.{Only}
+use Rattle.planning.proofs.Round.{Sound, eraser-one, eraser-right, next-nonzero, next-sound, nonzero, swapped-sound}
+use Rattle.planning.proofs.Rounds.{Ends, rounds-end}
+use Rattle.planning.proofs.Run.{moved-nonzero, moved-sound, plan-length, plan-moves, plan-none, plan-runs}
+use Rattle.planning.proofs.Running.{runs-back, runs→sound, sound→runs}
+use Rattle.planning.proofs.Runs.{MatrixRuns, Runs, Taken}
+use Rattle.planning.proofs.Step1.{delta-regular, pairing-total}
+use Rattle.planning.proofs.Step2.{moved-zero, summands-one, summands-right, undone-operations}
+use Rattle.planning.specs.Columns.{after, delta, phi, undone, zeroColumn}
+use Rattle.planning.specs.Making.{chosen, dividedUp, eraser, erases, operations, passMatrices, passesFor, rounds, step1, summands, swaps, unmarked}
+use Rattle.planning.specs.Pass.{Route, complemented, performed}
+use Rattle.planning.specs.Running.{canRun, sound}
+use Rattle.planning.specs.Stored.{planFor, planOf, routeOf}
+use Rattle.planning.specs.declared.Plan.{Plan}
 
 -- ---- the steps, of a matrix that planning takes
 module _ (n b m : ℕ) (rows : List ℕ) (k : Taken n b m rows) where

@@ -1,7 +1,7 @@
 -- What are the parts φ and δ of a product? Assumes nothing.
 use mathlib.Core.Path.{_∙_, _≡_, ap, ap₂, refl, sym}
 use mathlib.Core.List.{List, [], _∷_}
-use Prim.Native.Nat.{_%_, _*_, _-_, _/_, _<_, _^_, suc, zero, ℕ}
+use Prim.Native.Nat.{_%_, _*_, _/_, _<_, _^_, suc, zero, ℕ}
 use native.Mathlib.Nat.{mod-lt, mul-one, zero-div}
 use lib.Arith.{lt-one}
 use lib.Pow.{pow-lt, pow-pos, split}

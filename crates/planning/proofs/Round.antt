@@ -1,7 +1,7 @@
 -- What does one round do? Assumes nothing.
 use mathlib.Core.Path.{_∙_, _≡_, ap, ap₂, refl, subst, sym}
 use mathlib.Core.Bool.{Bool, _&&_, false, false≢true, not, true, true≢false}
-use mathlib.Core.Logic.{_⊎_, ⊎-elim}
+use mathlib.Core.Logic.{⊎-elim}
 use mathlib.Core.List.{List, [], _∷_}
 use Prim.Native.Nat.{_%_, _*_, _+_, _-_, _/_, _<_, _^_, _≤_, min, suc, zero, ℕ}
 use native.Mathlib.Nat.{add-zero, div-eq-of-lt, div-lt-iff-lt-mul, le-refl, lt-of-lt-of-le, mod-eq-of-lt, mul-mod-left, one-mul, sub-add-cancel, zero-add, zero-div, zero-mod, zero-mul}
@@ -18,7 +18,7 @@ use Rattle.algebra.proofs.Pigeon.{covers}
 use Rattle.algebra.proofs.Search.{le-or-lt}
 use Rattle.algebra.specs.Search.{firstOf, listed, which}
 use Rattle.algebra.specs.Vector.{bit, comb, times}
-use Rattle.planning.proofs.Acts.{All, Asc, adding-at, adding-is, adding-lt, adding-twice, all-mono, bit-above, bit-shifted, comb-after, listed-length, first-lt, hit-x, linear-after, linear-ext, miss, placing-at, partner-back, partner-lt, partner-out, same-or, sum-none, swap-lt, swap-twice, times-no, which-all, which-asc, which-holds}
+use Rattle.planning.proofs.Acts.{All, Asc, adding-at, adding-is, adding-lt, adding-twice, all-mono, bit-above, bit-shifted, comb-after, first-lt, hit-x, linear-after, linear-ext, listed-length, miss, partner-back, partner-lt, partner-out, placing-at, same-or, sum-none, swap-lt, swap-twice, times-no, which-all, which-asc, which-holds}
 use Rattle.planning.proofs.Dimension.{which-ext, which-none, which-not, which-split}
 use Rattle.planning.proofs.Parts.{delta-comb, phi-at}
 use Rattle.planning.proofs.Step1.{shl-below, shr-below}
@@ -331,10 +331,6 @@ module _ (n b m : ℕ) (hb : b ≤ m) (hm : m ≤ n) (cols : List ℕ) (k : Soun
 
   pub next-is : (x : ℕ) → comb next x ≡ comb cols (comb s (comb e x))
   next-is x = comb-after swapped e x ∙ comb-after cols s (comb e x)
-
-  -- E S, of a number below 2 ^ n
-  pub pass-is : (x : ℕ) → comb (after e s) x ≡ comb e (comb s x)
-  pass-is x = comb-after e s x
 
   pub next-sound : Sound n m next
   unfolding erases

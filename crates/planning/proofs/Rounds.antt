@@ -1,10 +1,10 @@
 -- What do all rounds do? Assumes nothing.
 use mathlib.Core.Path.{_∙_, _≡_, ap, refl, subst, sym}
 use mathlib.Core.Bool.{Bool, false, not, true}
-use mathlib.Core.Logic.{_⊎_, ⊎-elim}
+use mathlib.Core.Logic.{⊎-elim}
 use mathlib.Core.List.{List, [], _∷_, map}
 use Prim.Native.Nat.{_%_, _*_, _+_, _-_, _/_, _<_, _^_, _≤_, suc, zero, ℕ}
-use native.Mathlib.Nat.{add-div-right, div-eq-of-lt, zero-add, div-le-of-le-mul}
+use native.Mathlib.Nat.{add-div-right, div-eq-of-lt, div-le-of-le-mul, zero-add}
 use native.Mathlib.Numerals.{add-one}
 use native.Mathlib.Omega.{arith}
 use lib.Dec.{eqb}
@@ -18,7 +18,7 @@ use Rattle.algebra.proofs.Search.{le-or-lt, none-elim, some-elim}
 use Rattle.algebra.specs.Matrix.{columns, target}
 use Rattle.algebra.specs.Search.{which}
 use Rattle.algebra.specs.Vector.{comb}
-use Rattle.planning.proofs.Acts.{All, comb-after, listed-length, linear-self, which-member}
+use Rattle.planning.proofs.Acts.{All, comb-after, linear-self, listed-length, which-member}
 use Rattle.planning.proofs.Dimension.{which-none}
 use Rattle.planning.proofs.Parts.{phi-comb}
 use Rattle.planning.proofs.Round.{E-dry, S-low, S-lt, S-twice, Sound, erases-lt, erases-twice, next-is, next-nonzero, next-sound, nonzero}
@@ -244,13 +244,3 @@ module _ (n b m : ℕ) (hb : b < m) (hm : m ≤ n) where
       go : (x : Bool) → busy m cols ≡ x → (busy m cols ≡ true → Ends (λ p. nonzero m p ≡ 0) (rounds g n b m (next cols))) → Ends (λ p. nonzero m p ≡ 0) (rounds (suc g) n b m cols)
       go false e ih = subst (Ends (λ p. nonzero m p ≡ 0)) (sym (rounds-stop (suc g) n b m cols e)) (idle-none m cols e)
       go true e ih = subst (Ends (λ p. nonzero m p ≡ 0)) (sym (rounds-go g n b m cols e)) (ends-more (λ p. nonzero m p ≡ 0) (after (erases n b m (after cols (swaps n b m cols))) (swaps n b m cols)) (rounds g n b m (next cols)) (ih e))
-
-  -- to allow more rounds than there are nonzero columns changes nothing
-  pub rounds-fuel : (g h : ℕ) (cols : List ℕ) → Sound n m cols → nonzero m cols ≤ g → nonzero m cols ≤ h → rounds g n b m cols ≡ rounds h n b m cols
-  rounds-fuel zero h cols k p q = let i = idle m cols (omega arith) in rounds-stop zero n b m cols i ∙ sym (rounds-stop h n b m cols i)
-  rounds-fuel (suc g) zero cols k p q = let i = idle m cols (omega arith) in rounds-stop (suc g) n b m cols i ∙ sym (rounds-stop zero n b m cols i)
-  rounds-fuel (suc g) (suc h) cols k p q = go (busy m cols) refl (λ e. rounds-fuel g h (next cols) (next-sound n b m (omega arith) hm cols k) (fewer g cols k p e) (fewer h cols k q e))
-    where
-      go : (x : Bool) → busy m cols ≡ x → (busy m cols ≡ true → rounds g n b m (next cols) ≡ rounds h n b m (next cols)) → rounds (suc g) n b m cols ≡ rounds (suc h) n b m cols
-      go false e ih = rounds-stop (suc g) n b m cols e ∙ sym (rounds-stop (suc h) n b m cols e)
-      go true e ih = rounds-go g n b m cols e ∙ ap (λ (l : List (List ℕ)). after (erases n b m (after cols (swaps n b m cols))) (swaps n b m cols) ∷ l) (ih e) ∙ sym (rounds-go h n b m cols e)

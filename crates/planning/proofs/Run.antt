@@ -1,25 +1,23 @@
 -- Why does the plan for a nonsingular matrix run and make the order? Assumes nothing.
-use Rattle.algebra.proofs.Digits.{bits-same}
 use mathlib.Core.Path.{_∙_, _≡_, ap, refl, subst, sym}
 use mathlib.Core.Bool.{Bool, false, true}
-use mathlib.Core.Logic.{_⊎_, ⊎-elim}
 use mathlib.Core.List.{List, [], _∷_, map}
-use Prim.Native.Nat.{_%_, _*_, _+_, _-_, _/_, _<_, _^_, _≤_, suc, zero, ℕ}
-use native.Mathlib.Nat.{div-le-of-le-mul}
+use Prim.Native.Nat.{_%_, _*_, _+_, _-_, _/_, _<_, _^_, _≤_, suc, ℕ}
 use native.Mathlib.Omega.{arith}
-use lib.ListN.{length, length-map, take, getD}
 use lib.Pow.{pow-lt}
+use lib.ListN.{getD, length, length-map}
 use lib.Seq.{ext-getD}
-use lib.Bits.{bitXor, and-comm}
-use Rattle.algebra.proofs.Columns.{apply-transpose, columns-length, columns-lt, columns-at}
-use Rattle.algebra.proofs.Linear.{apply-columns, comb-lt, comb-zero, apply-bit, dot-unit, comb-one}
+use lib.Bits.{and-comm, bitXor}
+use Rattle.algebra.proofs.Columns.{apply-transpose, columns-at, columns-length, columns-lt}
+use Rattle.algebra.proofs.Digits.{bits-same}
+use Rattle.algebra.proofs.Linear.{apply-bit, apply-columns, comb-lt, comb-one, comb-zero, dot-unit}
 use Rattle.algebra.proofs.Parts.{dry-by-bits}
 use Rattle.algebra.proofs.Rank.{rank-le}
-use Rattle.algebra.proofs.Search.{le-or-lt, none-intro}
+use Rattle.algebra.proofs.Search.{none-intro}
 use Rattle.algebra.proofs.Singular.{kills-elim, regular-zero}
 use Rattle.algebra.specs.Matrix.{apply, columns, kills, marked, rank, singular, target}
 use Rattle.algebra.specs.Search.{which}
-use Rattle.algebra.specs.Vector.{comb, bit, parity}
+use Rattle.algebra.specs.Vector.{bit, comb, parity}
 use Rattle.planning.proofs.Acts.{All, comb-after}
 use Rattle.planning.proofs.Dimension.{rank-which, span-le, spread, spread-inj, spread-lt, spread-only}
 use Rattle.planning.proofs.Marks.{marks-one}
@@ -151,10 +149,6 @@ module _ (n b m : ℕ) (hb : b < m) (hm : m ≤ n) (rows : List ℕ) (hr : lengt
         refl,
       ))
       (λ x y hx hy e. spread-inj (marked (phi m cols)) m x y hx hy (marks-one (phi m cols) m (spread (marked (phi m cols)) m x) (spread (marked (phi m cols)) m y) (spread-lt (marked (phi m cols)) m x) (spread-lt (marked (phi m cols)) m y) (spread-only (marked (phi m cols)) m x) (spread-only (marked (phi m cols)) m y) e)))
-
-  -- at least one pass, and at most half of n and one more
-  pub plan-some : 0 < length (passMatrices n b m rows)
-  plan-some = omega (arith, plan-length)
 
   pub plan-half : 2 * length (passMatrices n b m rows) ≤ n + 2
   plan-half = omega (arith, plan-length, up-le (rank (phi m cols) m) (m - b) (omega arith), rank-low, rank-le (phi m cols) m)

@@ -1,26 +1,26 @@
 -- Which plans are sound? Those whose route can run and whose other places are zero. Assumes nothing.
-use native.Mathlib.Omega.{arith}
-use Rattle.algebra.proofs.Search.{none-elim, none-intro, le-or-lt}
-use Rattle.algebra.specs.Search.{some}
-use Rattle.planning.proofs.Stored.{route-back, taken-length, taken-at, route-length, route-at, stored-complement, stored-place, stored-row}
-use borrow.Author.Tests.{leb-true, leb-false, not-true, eq-eqb, le-leb, lt-leb}
-use Rattle.bank.specs.declared.Geometry.{Geometry}
-use Rattle.bank.specs.Limits.{PASSES, ROWS}
-use Rattle.bank.specs.Geometry.{inLimits, records}
-use lib.Dec.{leb, eqb}
-use Rattle.planning.proofs.Runs.{Runs}
-use Rattle.algebra.specs.Matrix.{spills, singular}
-use Rattle.bank.proofs.Limits.{Allowed, limits→allowed, and-r, and-l, and-both, allowed→limits}
-use lib.ListN.{getD, length, List·getD-eq-default}
-use Rattle.planning.specs.Pass.{Route, Pass, passAt, passIn}
-use Rattle.planning.specs.Stored.{routeOf, planOf, storedPass, storedComplements, storedRows}
-use Rattle.planning.specs.declared.Plan.{Plan}
-use Rattle.planning.specs.Running.{sound, countInLimits, strayRow, strayComplement, singularPass, spillingPass, spareRow, spareComplement, spare}
-use mathlib.Core.Path.{_≡_, _∙_, ap, refl, subst, sym}
-use mathlib.Core.Bool.{Bool, true, false, not, _&&_, _||_, le-true}
-use mathlib.Core.Logic.{_⊎_, ⊎-elim, inl, inr}
+use mathlib.Core.Path.{_∙_, _≡_, ap, refl, subst, sym}
+use mathlib.Core.Bool.{Bool, _&&_, _||_, false, not, true}
+use mathlib.Core.Logic.{_⊎_, inl, inr, ⊎-elim}
 use mathlib.Core.List.{List, []}
-use Prim.Native.Nat.{ℕ, _+_, _*_, _/_, _%_, _^_, _≤_, _<_, zero-le}
+use Prim.Native.Nat.{_%_, _*_, _+_, _/_, _<_, _≤_, ℕ}
+use native.Mathlib.Omega.{arith}
+use lib.Dec.{eqb, leb}
+use lib.ListN.{List·getD-eq-default, getD, length}
+use borrow.Author.Tests.{eq-eqb, le-leb, leb-false, leb-true, lt-leb, not-true}
+use Rattle.bank.proofs.Limits.{Allowed, allowed→limits, and-both, and-l, and-r, limits→allowed}
+use Rattle.bank.specs.Geometry.{inLimits, records}
+use Rattle.bank.specs.Limits.{PASSES, ROWS}
+use Rattle.bank.specs.declared.Geometry.{Geometry}
+use Rattle.algebra.proofs.Search.{le-or-lt, none-elim, none-intro}
+use Rattle.algebra.specs.Matrix.{singular, spills}
+use Rattle.algebra.specs.Search.{some}
+use Rattle.planning.proofs.Runs.{Runs}
+use Rattle.planning.proofs.Stored.{route-at, route-back, route-length, stored-complement, stored-place, stored-row, taken-at, taken-length}
+use Rattle.planning.specs.Pass.{Pass, Route, passAt, passIn}
+use Rattle.planning.specs.Running.{countInLimits, singularPass, sound, spare, spareComplement, spareRow, spillingPass, strayComplement, strayRow}
+use Rattle.planning.specs.Stored.{planOf, routeOf, storedComplements, storedPass, storedRows}
+use Rattle.planning.specs.declared.Plan.{Plan}
 
 -- the conditions of number 7, one by one
 pub record Checked (plan : Plan) : Type 0 where

@@ -2,12 +2,12 @@
 use mathlib.Core.Path.{_≡_}
 use mathlib.Core.Bool.{false}
 use mathlib.Core.List.{List}
-use Prim.Native.Nat.{ℕ, _^_, _≤_, _<_}
-use lib.ListN.{length, getD}
+use Prim.Native.Nat.{_<_, _^_, _≤_, ℕ}
+use lib.ListN.{getD, length}
+use Rattle.bank.proofs.Limits.{Allowed}
+use Rattle.bank.specs.Geometry.{records}
 use Rattle.bank.specs.Limits.{PASSES}
 use Rattle.bank.specs.declared.Geometry.{Geometry}
-use Rattle.bank.specs.Geometry.{records}
-use Rattle.bank.proofs.Limits.{Allowed}
 use Rattle.algebra.specs.Matrix.{singular, spills}
 use Rattle.planning.specs.Pass.{Pass, Route, passAt}
 

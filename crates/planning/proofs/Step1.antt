@@ -1,9 +1,9 @@
 -- Why is the pairing of step 1 total, and δ nonsingular after it? Assumes nothing.
 use mathlib.Core.Path.{_∙_, _≡_, ap, ap₂, refl, subst, sym}
 use mathlib.Core.Bool.{Bool, _&&_, false, not, true, true≢false}
-use mathlib.Core.Logic.{_⊎_, ⊎-elim}
+use mathlib.Core.Logic.{⊎-elim}
 use mathlib.Core.List.{List, [], _∷_, map}
-use Prim.Native.Nat.{_%_, _*_, _+_, _-_, _/_, _<_, _^_, _≤_, zero, ℕ}
+use Prim.Native.Nat.{_%_, _*_, _+_, _-_, _/_, _<_, _^_, _≤_, ℕ}
 use native.Mathlib.Nat.{le-antisymm, le-refl, lt-of-lt-of-le, mod-lt, sub-add-cancel, zero-add}
 use native.Mathlib.Omega.{arith}
 use lib.Arith.{digits-lt}
@@ -12,14 +12,14 @@ use lib.Dec.{eqb}
 use lib.ListN.{getD, length, length-map}
 use lib.Bits.{bitXor, xor-comm, xor-lt, xor-self, xor-shr, xor-zero-r}
 use borrow.Author.Tests.{eq-eqb, eqb-false, eqb-true, ne-eqb, not-false, not-true}
-use Rattle.algebra.proofs.Digits.{bit-lt, bit-xor, bit-zero, times-add, times-zero, xor-assoc, xor-cancel-r, xor-eq, xor-move, xor4, bit-times, times-one}
+use Rattle.algebra.proofs.Digits.{bit-lt, bit-times, bit-xor, bit-zero, times-add, times-one, times-zero, xor-assoc, xor-cancel-r, xor-eq, xor-move, xor4}
 use Rattle.algebra.proofs.Linear.{comb-linear, comb-one, comb-xor, comb-zero}
 use Rattle.algebra.proofs.Pigeon.{covers}
 use Rattle.algebra.proofs.Search.{and-r, le-or-lt, some-elim, some-intro}
 use Rattle.algebra.specs.Matrix.{marked}
 use Rattle.algebra.specs.Search.{listed, some, which}
 use Rattle.algebra.specs.Vector.{bit, comb, times}
-use Rattle.planning.proofs.Acts.{All, Asc, adding-is, adding-lt, adding-twice, all-mono, bit-above, comb-after, listed-at, linear-ext, sum-none, times-no, which-all, which-asc, which-holds, which-member}
+use Rattle.planning.proofs.Acts.{All, Asc, adding-is, adding-lt, all-mono, bit-above, comb-after, linear-ext, listed-at, sum-none, times-no, which-all, which-asc, which-holds, which-member}
 use Rattle.planning.proofs.Dimension.{span-le, spread, spread-all, spread-inj, spread-lt, spread-only, times-none, which-not}
 use Rattle.planning.proofs.Marks.{Only, bit-pow, bit-pow-other, indep, marks-indep, marks-span, only-intro, only-xor, spans}
 use Rattle.planning.proofs.Parts.{delta-comb, lower-parts, phi-comb}
@@ -186,10 +186,6 @@ module _ (n m : ℕ) (hm : m ≤ n) (cols : List ℕ) where
   pub step1-lt : (x : ℕ) → x < 2 ^ n → comb (step1 n m cols) x < 2 ^ n
   unfolding step1
   step1-lt x h = adding-lt add1 n add1-small add1-nil x h
-
-  pub step1-twice : (x : ℕ) → x < 2 ^ n → comb (step1 n m cols) (comb (step1 n m cols) x) ≡ x
-  unfolding step1
-  step1-twice x h = adding-twice add1 n add1-small add1-nil x h
 
   -- the columns below m stay
   pub step1-low : (x : ℕ) → x < 2 ^ m → comb (step1 n m cols) x ≡ x

@@ -1,9 +1,9 @@
 -- What does step 2 do, and why is P its own inverse? Assumes nothing.
 use mathlib.Core.Path.{_∙_, _≡_, ap, ap₂, refl, subst, sym}
 use mathlib.Core.Bool.{Bool, _&&_, false, not, true, true≢false}
-use mathlib.Core.Logic.{_⊎_, ⊎-elim}
+use mathlib.Core.Logic.{⊎-elim}
 use mathlib.Core.List.{List}
-use Prim.Native.Nat.{_*_, _+_, _-_, _/_, _<_, _^_, _≤_, zero, ℕ}
+use Prim.Native.Nat.{_*_, _-_, _/_, _<_, _^_, _≤_, ℕ}
 use native.Mathlib.Nat.{lt-of-lt-of-le, zero-add}
 use native.Mathlib.Omega.{arith}
 use lib.Pow.{pow-lt, pow-mono, pow-pos}
@@ -18,7 +18,7 @@ use Rattle.algebra.proofs.Search.{and-l, and-r, found-lt, le-or-lt, least-holds
 use Rattle.algebra.specs.Matrix.{marked, rank}
 use Rattle.algebra.specs.Search.{firstOf, least, listed, some, which}
 use Rattle.algebra.specs.Vector.{bit, comb, times}
-use Rattle.planning.proofs.Acts.{All, adding-at, adding-is, adding-lt, adding-twice, all-mono, bit-above, bit-shifted, comb-after, listed-at, listed-length, listed-lt, first-lt, sum-none, times-no, which-holds}
+use Rattle.planning.proofs.Acts.{All, adding-at, adding-is, adding-lt, all-mono, bit-above, bit-shifted, comb-after, first-lt, listed-at, listed-length, listed-lt, sum-none, times-no, which-holds}
 use Rattle.planning.proofs.Dimension.{rank-which, which-ext}
 use Rattle.planning.proofs.Marks.{Only, marked-nonzero, marks-one, marks-span, only-elim, only-intro, only-more, unmarked-elim}
 use Rattle.planning.proofs.Parts.{delta-comb, phi-at, phi-comb}
@@ -129,10 +129,6 @@ module _ (m : ℕ) (cols : List ℕ) where
     pub step2-lt : (x : ℕ) → x < 2 ^ n → comb (step2 n m cols) x < 2 ^ n
     unfolding step2
     step2-lt x h = adding-lt (summands m cols) n small2 summands-nil x h
-
-    pub step2-twice : (x : ℕ) → x < 2 ^ n → comb (step2 n m cols) (comb (step2 n m cols) x) ≡ x
-    unfolding step2
-    step2-twice x h = adding-twice (summands m cols) n small2 summands-nil x h
 
     pub step2-at : (j : ℕ) → j < n → comb (step2 n m cols) (2 ^ j) ≡ bitXor (2 ^ j) (summands m cols j)
     unfolding step2

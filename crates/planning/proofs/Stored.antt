@@ -1,17 +1,17 @@
 -- Does a stored plan give its route back? Assumes nothing.
-use native.Mathlib.Omega.{arith}
-use native.Mathlib.Nat.{zero-add, suc-mul, mul-le-mul-right}
-use lib.Seq.{getD-take, ext-getD, length-take-le, getD-drop}
-use lib.Arith.{digits-lt, digits-div, digits-mod}
-use Rattle.planning.proofs.Acts.{listed-length, listed-at}
-use Rattle.bank.specs.Limits.{PASSES, ROWS}
-use lib.ListN.{getD, length, take, drop, length-take, length-drop}
-use Rattle.planning.specs.Stored.{storedPass, storedComplements, routeOf, storedRows, planOf}
-use Rattle.planning.specs.Pass.{Route, Pass, passIn, passAt}
-use Rattle.planning.specs.declared.Plan.{Plan}
-use mathlib.Core.Path.{_≡_, _∙_, ap, ap₂, sym, subst}
+use mathlib.Core.Path.{_∙_, _≡_, ap, ap₂, subst, sym}
 use mathlib.Core.List.{List, []}
-use Prim.Native.Nat.{ℕ, _+_, _*_, _-_, _/_, _%_, _≤_, _<_}
+use Prim.Native.Nat.{_%_, _*_, _+_, _/_, _<_, _≤_, ℕ}
+use native.Mathlib.Nat.{mul-le-mul-right, suc-mul, zero-add}
+use native.Mathlib.Omega.{arith}
+use lib.Arith.{digits-div, digits-lt, digits-mod}
+use lib.ListN.{drop, getD, length, length-drop, take}
+use lib.Seq.{ext-getD, getD-drop, getD-take, length-take-le}
+use Rattle.bank.specs.Limits.{PASSES, ROWS}
+use Rattle.planning.proofs.Acts.{listed-at, listed-length}
+use Rattle.planning.specs.Pass.{Pass, Route, passAt, passIn}
+use Rattle.planning.specs.Stored.{planOf, routeOf, storedComplements, storedPass, storedRows}
+use Rattle.planning.specs.declared.Plan.{Plan}
 
 -- ---- the places, of any number of passes of any width
 module _ (room width : ℕ) (ps : List Pass) where
