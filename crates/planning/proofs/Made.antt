@@ -5,10 +5,8 @@ use mathlib.Core.List.{List, [], _∷_}
 use Prim.Native.Nat.{_+_, _-_, _<_, _^_, _≤_, suc, zero, zero-le, ℕ}
 use native.Mathlib.Omega.{arith}
 use lib.Pow.{pow-pos}
-use lib.Dec.{leb}
 use lib.ListN.{getD, length}
-use borrow.Author.Tests.{le-leb}
-use Rattle.bank.proofs.Limits.{Allowed, and-both, limits→allowed}
+use Rattle.bank.proofs.Limits.{Allowed, limits→allowed}
 use Rattle.bank.specs.Geometry.{inLimits}
 use Rattle.bank.specs.Limits.{PASSES}
 use Rattle.bank.specs.declared.Geometry.{Geometry}
@@ -16,12 +14,12 @@ use Rattle.algebra.specs.Matrix.{columns, rank, singular, spills, target}
 use Rattle.planning.proofs.Acts.{all-at, at-all}
 use Rattle.planning.proofs.Bound.{passes-bound}
 use Rattle.planning.proofs.Run.{plan-half, plan-length, plan-moves, plan-none, plan-runs}
-use Rattle.planning.proofs.Running.{runs-back, runs→sound, sound-allowed, sound-dry, sound→checked}
+use Rattle.planning.proofs.Running.{runs-back, runs→sound, sound-allowed, sound-dry, sound→can-run, sound→checked}
 use Rattle.planning.proofs.Runs.{MatrixRuns, Runs}
 use Rattle.planning.proofs.Stored.{route-length}
 use Rattle.planning.specs.Columns.{phi}
 use Rattle.planning.specs.Making.{dividedUp, passMatrices, passesFor}
-use Rattle.planning.specs.Pass.{complemented, passIn, performed, total}
+use Rattle.planning.specs.Pass.{complemented, passIn, performed}
 use Rattle.planning.specs.Running.{canRun, sound}
 use Rattle.planning.specs.Stored.{planFor, routeOf}
 use Rattle.planning.specs.declared.Plan.{Plan}
@@ -113,8 +111,7 @@ module _ (g : Geometry) (rows : List ℕ) (c : ℕ) (hg : inLimits g ≡ true) (
     made-sound = runs→sound (record { geometry = g; passes = passesFor g rows c }) made-runs
 
     pub made-can-run : canRun (planFor g rows c) 0 ≡ true
-    unfolding canRun
-    made-can-run = and-both (sound (planFor g rows c)) (leb 0 (total (routeOf (planFor g rows c)))) made-sound (le-leb 0 (total (routeOf (planFor g rows c))) zero-le)
+    made-can-run = sound→can-run (planFor g rows c) 0 made-sound zero-le
 
 -- ---- any sound plan that performs an order, whoever made it
 module _ (plan : Plan) (e : sound plan ≡ true) (rows : List ℕ) (c : ℕ)

@@ -17,8 +17,8 @@ use Rattle.algebra.specs.Matrix.{singular, spills}
 use Rattle.algebra.specs.Search.{some}
 use Rattle.planning.proofs.Runs.{Runs}
 use Rattle.planning.proofs.Stored.{route-at, route-back, route-length, stored-complement, stored-place, stored-row, taken-at, taken-length}
-use Rattle.planning.specs.Pass.{Pass, Route, passAt, passIn}
-use Rattle.planning.specs.Running.{countInLimits, singularPass, sound, spare, spareComplement, spareRow, spillingPass, strayComplement, strayRow}
+use Rattle.planning.specs.Pass.{Pass, Route, passAt, passIn, total}
+use Rattle.planning.specs.Running.{canRun, countInLimits, singularPass, sound, spare, spareComplement, spareRow, spillingPass, strayComplement, strayRow}
 use Rattle.planning.specs.Stored.{planOf, routeOf, storedComplements, storedPass, storedRows}
 use Rattle.planning.specs.declared.Plan.{Plan}
 
@@ -141,6 +141,20 @@ sound→runs plan long e = record {
 
     complement : (p : ℕ) → storedPass ROWS n (plan .rows) (plan .complements) p .complement ≡ getD (plan .complements) p 0
     complement p = unfold storedPass in refl
+
+-- ---- the state's next step
+module _ (plan : Plan) (next : ℕ) where
+  pub can-run→sound : canRun plan next ≡ true → sound plan ≡ true
+  unfolding canRun
+  can-run→sound = and-l (sound plan) (leb next (total (routeOf plan)))
+
+  pub can-run→next : canRun plan next ≡ true → next ≤ total (routeOf plan)
+  unfolding canRun
+  can-run→next e = leb-true next (total (routeOf plan)) (and-r (sound plan) (leb next (total (routeOf plan))) e)
+
+  pub sound→can-run : sound plan ≡ true → next ≤ total (routeOf plan) → canRun plan next ≡ true
+  unfolding canRun
+  sound→can-run e h = and-both (sound plan) (leb next (total (routeOf plan))) e (le-leb next (total (routeOf plan)) h)
 
 -- ---- a route that can run, stored, is a sound plan
 or-cases : (a b : Bool) → a || b ≡ true → (a ≡ true) ⊎ (b ≡ true)
