@@ -1,0 +1,17 @@
+pub mod Runs
+pub mod Acts
+pub mod Marks
+pub mod Parts
+pub mod Dimension
+pub mod Step1
+pub mod Step2
+pub mod Round
+pub mod Rounds
+pub mod Run
+pub mod Bound
+pub mod Stored
+pub mod Running
+pub mod Made
+pub mod Bridges
+pub mod Snoc
+pub mod Main
