@@ -1,0 +1,10 @@
+pub mod Bytes
+pub mod Numbers
+pub mod Again
+pub mod Load
+pub mod Pass
+pub mod All
+pub mod Low
+pub mod Drives
+pub mod Keeps
+pub mod Bridge
