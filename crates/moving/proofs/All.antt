@@ -16,14 +16,12 @@ use Rattle.algebra.specs.Matrix.{apply, source, target}
 use Rattle.bank.proofs.Limits.{Allowed}
 use Rattle.bank.specs.Geometry.{memory, records}
 use Rattle.bank.specs.declared.Geometry.{Geometry}
-use Rattle.moving.proofs.Again.{Kept, in-turn, inTurn, kept-fresh, kept-line, line-advance}
 use Rattle.moving.proofs.Bytes.{same-record}
 use Rattle.moving.proofs.Load.{by-eq}
 use Rattle.moving.proofs.Pass.{PassDone, pass-done}
 use Rattle.moving.specs.Bytes.{recordOf}
-use Rattle.moving.specs.Call.{fresh}
-use Rattle.moving.specs.Line.{Call, line, lineSteps}
-use Rattle.moving.specs.Step.{Buffers, Fits, areaBy, areaOf, even, moves, sourceOf}
+use Rattle.moving.specs.Step.{Buffers, areaBy, areaOf, even, moves, sourceOf}
+use Rattle.moving.proofs.Fits.{Fits}
 use Rattle.planning.proofs.Runs.{PassRuns, Runs}
 use Rattle.planning.specs.Pass.{Pass, Route, passAt, passSteps, performed, phases, total}
 
@@ -150,33 +148,3 @@ module _ (route : Route) (ok : Allowed (route .geometry)) (runs : (p : ℕ) → 
     where
       end : Reached route v₀ (length (route .passes)) (moves route (length (route .passes) * passSteps route) v₀)
       end = reached (length (route .passes)) (le-refl (length (route .passes)))
-
--- DEMAND 3. A route that can moment and performs the order (rows, c); a line of calls from a fresh state, the records in area 0; at the end of the steps
-pub record Delivered (route : Route) (rows : List ℕ) (c : ℕ) (v : Buffers) (cs : List Call) : Type 0 where
-  -- the named area holds, at Ax xor c, the very record that began at x in area 0
-  pub holds : (x : ℕ) → x < records (route .geometry)
-      → recordOf (route .geometry .r) (areaOf (length (route .passes)) (line route (fresh v) cs .buffers)) (target rows c x) ≡ recordOf (route .geometry .r) (v .area0) x
-  -- repeats left out, the steps are 2N/(BD) for each pass
-  pub count : lineSteps route (fresh v) cs ≡ 2 * records (route .geometry) / (2 ^ route .geometry .b * 2 ^ route .geometry .d) * length (route .passes)
-
-pub delivered : (route : Route) → Runs route → (rows : List ℕ) (c : ℕ) → ((x : ℕ) → x < records (route .geometry) → performed (route .passes) x ≡ target rows c x)
-    → (v : Buffers) → Fits (route .geometry) v → (cs : List Call) → line route (fresh v) cs .next ≡ total route → Delivered route rows c v cs
-unfolding total passSteps phases
-delivered route runs rows c does v fits cs ends =
-    record {
-      holds = λ x hx.
-          ap₂ (λ (w : Buffers) (y : ℕ). recordOf (route .geometry .r) (areaOf (length (route .passes)) w) y)
-          (kept-line route v (fresh v) cs (kept-fresh route v) .once ∙ ap (λ (k : ℕ). moves route k v) ends) (sym (does x hx))
-          ∙ all-passes route (runs .allowed) (runs .each-runs) v fits x hx;
-      count = sym (zero-add (lineSteps route (fresh v) cs)) ∙ sym (line-advance route (fresh v) cs) ∙ ends;
-    }
-
--- and after any line of calls, finished or not, the buffers are those of the steps below next, each done once, and next is at most the total
-pub any-line : (route : Route) (v : Buffers) (cs : List Call) → Kept route v (line route (fresh v) cs)
-any-line route v cs = kept-line route v (fresh v) cs (kept-fresh route v)
-
--- such lines are there: the steps in turn, each again as often as the line likes
-pub in-turn-delivers : (route : Route) → Runs route → (rows : List ℕ) (c : ℕ) → ((x : ℕ) → x < records (route .geometry) → performed (route .passes) x ≡ target rows c x)
-    → (v : Buffers) → Fits (route .geometry) v → (more : ℕ → ℕ) → Delivered route rows c v (inTurn more (total route) 0)
-in-turn-delivers route runs rows c does v fits more =
-    delivered route runs rows c does v fits (inTurn more (total route) 0) (in-turn route more (total route) 0 (omega arith) (fresh v) refl ∙ zero-add (total route))

@@ -1,4 +1,5 @@
 pub mod Bytes
+pub mod Fits
 pub mod Numbers
 pub mod Again
 pub mod Load

@@ -14,7 +14,7 @@ use Rattle.bank.specs.Geometry.{memory, records, stripes}
 use Rattle.bank.specs.declared.Geometry.{Geometry}
 use Rattle.moving.proofs.Bytes.{byte-in, getD-chosen, length-copied}
 use Rattle.moving.proofs.Load.{During, copied-none, read-step, when, write-step}
-use Rattle.moving.proofs.Numbers.{load-at, load-is, load-lt, loads, pass-at, pass-is, stripe-lt}
+use Rattle.moving.proofs.Numbers.{load-at, load-is, load-lt, loads, pass-at, pass-is, stripe-lt, phase-at, turn-at}
 use Rattle.moving.specs.Bytes.{copied}
 use Rattle.moving.specs.Number.{loadOf, passOf, phaseOf, turnOf}
 use Rattle.moving.specs.Step.{Buffers, areaBy, byPhase, even, move, moves, readMove, sourceOf, writeMove}
