@@ -2,6 +2,7 @@ pub mod Bytes
 pub mod Fits
 pub mod Numbers
 pub mod Again
+pub mod Calls
 pub mod Load
 pub mod Pass
 pub mod All
