@@ -229,12 +229,21 @@ module _ (plan : Plan) (moment : Moment) where
         fitting = moves-from-fits (plan .geometry) (routeOf plan) (moment .next) k (moment .buffers) (r .fitting);
       }
 
-  by-run : (P : Type 0) → (runNumber plan moment ≡ 0 → P) → (eqb (runNumber plan moment) 0 ≡ false → P) → P
+  pub by-run : (P : Type 0) → (runNumber plan moment ≡ 0 → P) → (eqb (runNumber plan moment) 0 ≡ false → P) → P
   by-run P does refused = go (eqb (runNumber plan moment) 0) refl
     where
       go : (t : Bool) → eqb (runNumber plan moment) 0 ≡ t → P
       go true e = does (eqb-true (runNumber plan moment) 0 e)
       go false e = refused e
+
+-- allowances that give the same count do the same
+pub run-same : (plan : Plan) (moment : Moment) (q k : ℕ) → runCount plan moment q ≡ runCount plan moment k → ran plan moment q ≡ ran plan moment k
+unfolding ran
+run-same plan moment q k e = ap (λ (i : ℕ). record { next = moment .next + i; buffers = movesFrom (routeOf plan) (moment .next) i (moment .buffers) }) e
+
+pub run-none : (plan : Plan) (moment : Moment) → ran plan moment 0 ≡ moment
+run-none plan moment =
+    by-run plan moment (ran plan moment 0 ≡ moment) (λ e. run-on plan moment 0 0 (run-count plan moment 0 e ∙ omega arith) ∙ on-none plan moment) (refused-run plan moment 0)
 
 -- a run of q followed by one of k is a run of their sum, refused or not
 pub run-again : (plan : Plan) (moment : Moment) (q k : ℕ) → ran plan (ran plan moment q) k ≡ ran plan moment (q + k)

@@ -3,6 +3,7 @@ pub mod Fits
 pub mod Numbers
 pub mod Again
 pub mod Calls
+pub mod Lines
 pub mod Load
 pub mod Pass
 pub mod All
