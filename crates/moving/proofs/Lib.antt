@@ -11,3 +11,4 @@ pub mod Low
 pub mod Drives
 pub mod Keeps
 pub mod Bridge
+pub mod Main
