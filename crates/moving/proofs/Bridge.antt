@@ -1,6 +1,6 @@
 -- How does code make the moves? Assumes nothing.
 use mathlib.Core.Path.{_∙_, _≡_, ap, ap₂, refl, subst, sym}
-use mathlib.Core.Logic.{_⊎_, ⊎-elim}
+use mathlib.Core.Logic.{⊎-elim}
 use mathlib.Core.Bool.{Bool, cond, false, true}
 use mathlib.Core.List.{List, map}
 use Prim.Native.Nat.{_%_, _*_, _+_, _-_, _/_, _<_, _^_, _≤_, suc, ℕ}
@@ -23,7 +23,7 @@ use Rattle.moving.proofs.Drives.{block-place, block-test, first-lt, tar
 use Rattle.moving.proofs.Low.{block-drive, on-load, place-block, place-drive, place-form, place-lt}
 use Rattle.moving.proofs.Numbers.{loads, pow-split, stripe-pos}
 use Rattle.moving.specs.Blocks.{blockStart, landing, placeIn, targetBlock}
-use Rattle.moving.specs.Bytes.{copied, each, laid, landed, within}
+use Rattle.moving.specs.Bytes.{copied, laid, landed, within}
 use Rattle.moving.specs.Step.{readFrom, readTakes, sourceOf, writeFrom, writeTakes}
 use Rattle.planning.proofs.Runs.{PassRuns}
 use Rattle.planning.specs.Pass.{Pass}

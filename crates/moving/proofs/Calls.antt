@@ -4,7 +4,7 @@ use mathlib.Core.Bool.{Bool, _||_, cond, false, false≢true, not, true}
 use Prim.Native.Nat.{_+_, _-_, _<_, _≤_, min, suc, zero, ℕ}
 use native.Mathlib.Nat.{add-assoc, add-suc, add-zero}
 use native.Mathlib.Omega.{arith}
-use borrow.Author.Tests.{eq-eqb, eqb-false, eqb-true, le-leb, leb-false, leb-true, lt-leb, ne-eqb}
+use borrow.Author.Tests.{eq-eqb, eqb-true, le-leb, leb-false, leb-true, lt-leb, ne-eqb}
 use lib.Dec.{eqb, leb}
 use Rattle.bank.proofs.Limits.{and-both, and-l, and-r}
 use Rattle.bank.specs.Checks.{refuse}
@@ -206,7 +206,7 @@ module _ (plan : Plan) (moment : Moment) where
   -- REFUSED. Neither the state nor a byte changes, and no step is done
   pub refused-count : (q : ℕ) → eqb (runNumber plan moment) 0 ≡ false → runCount plan moment q ≡ 0
   unfolding runCount
-  refused-count q e = ap (λ (t : Bool). cond t (min q (total (routeOf plan) - moment .next)) 0) e
+  refused-count q e = rw e
 
   pub refused-run : (q : ℕ) → eqb (runNumber plan moment) 0 ≡ false → ran plan moment q ≡ moment
   refused-run q e = run-on q 0 (refused-count q e) ∙ on-none plan moment
@@ -214,7 +214,7 @@ module _ (plan : Plan) (moment : Moment) where
   -- DONE. As many steps as are allowed and left
   pub run-count : (q : ℕ) → runNumber plan moment ≡ 0 → runCount plan moment q ≡ min q (total (routeOf plan) - moment .next)
   unfolding runCount
-  run-count q e = ap (λ (t : Bool). cond t (min q (total (routeOf plan) - moment .next)) 0) (eq-eqb (runNumber plan moment) 0 e)
+  run-count q e = rw (eq-eqb (runNumber plan moment) 0 e)
 
   pub run-next : (q : ℕ) → ran plan moment q .next ≡ moment .next + runCount plan moment q
   unfolding ran

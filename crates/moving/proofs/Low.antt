@@ -9,7 +9,7 @@ use borrow.Author.Tests.{eq-eqb, eqb-true}
 use lib.Arith.{digits-lt}
 use lib.Bits.{bitXor, xor-comm, xor-lt, xor-mod, xor-self, xor-shifted, xor-shr, xor-zero-r}
 use lib.Dec.{eqb}
-use lib.Pow.{field, high, low, mod-mod-pow, pow-add, pow-mono, pow-pos, shl-lt, shr-shr}
+use lib.Pow.{field, high, mod-mod-pow, pow-add, pow-mono, pow-pos, shl-lt, shr-shr}
 use lib.ListN.{drop, length, length-take, take}
 use Rattle.algebra.proofs.Parts.{apply-take, apply-drop}
 use Rattle.algebra.proofs.Digits.{xor-assoc, xor-cancel-r, xor-eq, xor4}
@@ -240,12 +240,6 @@ module _ (n b m : ℕ) (rows : List ℕ) (c : ℕ) (hb : b ≤ m) (hm : m ≤ n)
     where
       small : bitXor w (first l % 2 ^ m) < 2 ^ m
       small = xor-lt m w (first l % 2 ^ m) hw (mod-lt (first l) (pow-pos m))
-
-  pub land-form : (l w : ℕ) → w < 2 ^ m → land l w ≡ bitXor (comb (map (apply rows) E) (bitXor w (first l % 2 ^ m))) (first l)
-  land-form l w hw =
-      on-load l (place l w) (place-lt l w hw)
-      ∙ ap (λ (x : ℕ). bitXor (apply rows x) (first l)) (place-form l w hw)
-      ∙ ap (λ (x : ℕ). bitXor x (first l)) (linear-comb (apply rows) (apply-linear rows) E (bitXor w (first l % 2 ^ m)))
 
   -- ---- affine in the drive: columns b..b+d-1 of the inverse
 

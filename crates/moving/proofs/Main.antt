@@ -1,5 +1,5 @@
 -- What do calls promise? The laws of this crate, for readers, in one place. Assumes nothing.
-use mathlib.Core.Path.{_∙_, _≡_, ap, ap₂, refl, sym}
+use mathlib.Core.Path.{_∙_, _≡_, ap, ap₂, sym}
 use mathlib.Core.Bool.{false, true}
 use mathlib.Core.List.{List}
 use Prim.Native.Nat.{_%_, _*_, _+_, _-_, _/_, _<_, _^_, min, ℕ}
@@ -11,7 +11,7 @@ use Rattle.bank.specs.Geometry.{block, blockAt, driveAt, drives, records}
 use Rattle.moving.proofs.All.{all-passes}
 use Rattle.moving.proofs.Calls as calls
 use Rattle.moving.proofs.Drives as blocks
-use Rattle.moving.proofs.Fits.{Fits, fits→Fits}
+use Rattle.moving.proofs.Fits.{fits→Fits}
 use Rattle.moving.proofs.Lines as lines
 use Rattle.moving.proofs.Lines.{Kept, inTurn}
 use Rattle.moving.specs.Blocks.{stepBlock}
