@@ -1,0 +1,103 @@
+-- What are the bytes and records of a buffer after a move? Assumes nothing.
+use mathlib.Core.Path.{_∙_, _≡_, ap, refl, subst, sym}
+use mathlib.Core.Logic.{_⊎_, inl, inr, ⊎-elim}
+use mathlib.Core.Bool.{Bool, cond, false, true}
+use mathlib.Core.List.{List, [], _∷_}
+use Prim.Native.Nat.{_%_, _*_, _+_, _/_, _<_, _≤_, suc, suc-le-suc, zero, zero-le, ℕ}
+use native.Mathlib.Nat.{div-lt-iff-lt-mul, le-of-eq, le-of-suc-le-suc, le-trans, mul-le-mul-right, not-suc-le-zero, suc-mul, zero-add}
+use native.Mathlib.Omega.{arith}
+use lib.ListN.{drop, getD, length, length-drop, length-take}
+use lib.Seq.{ext-getD, getD-drop, getD-take}
+use Rattle.moving.specs.Bytes.{copied, each, eachFrom, recordOf}
+
+pub lt-or-ge : (i a : ℕ) → (i < a) ⊎ (a ≤ i)
+lt-or-ge i zero = inr zero-le
+lt-or-ge zero (suc a) = inl (suc-le-suc zero-le)
+lt-or-ge (suc i) (suc a) = ⊎-elim (λ h. inl (suc-le-suc h)) (λ h. inr (suc-le-suc h)) (lt-or-ge i a)
+
+-- ---- each
+
+length-from : (f : ℕ → ℕ → ℕ) (k : ℕ) (l : List ℕ) → length (eachFrom f k l) ≡ length l
+unfolding eachFrom
+length-from f k [] = refl
+length-from f k (x ∷ xs) = ap suc (length-from f (suc k) xs)
+
+pub length-each : (f : ℕ → ℕ → ℕ) (l : List ℕ) → length (each f l) ≡ length l
+unfolding each
+length-each f l = length-from f zero l
+
+getD-from : (f : ℕ → ℕ → ℕ) (k : ℕ) (l : List ℕ) (i : ℕ) → i < length l → getD (eachFrom f k l) i 0 ≡ f (k + i) (getD l i 0)
+unfolding eachFrom
+getD-from f k [] i h = absurd (not-suc-le-zero h)
+getD-from f k (x ∷ xs) zero h = ap (λ (n : ℕ). f n x) (omega arith)
+getD-from f k (x ∷ xs) (suc i) h =
+    getD-from f (suc k) xs i (le-of-suc-le-suc h) ∙ ap (λ (n : ℕ). f n (getD xs i 0)) (omega arith)
+
+pub getD-each : (f : ℕ → ℕ → ℕ) (l : List ℕ) (i : ℕ) → i < length l → getD (each f l) i 0 ≡ f i (getD l i 0)
+unfolding each
+getD-each f l i h = getD-from f zero l i h ∙ ap (λ (n : ℕ). f n (getD l i 0)) (zero-add i)
+
+-- a list is `each f l` where it is as long and each entry is what f says
+pub is-each : (f : ℕ → ℕ → ℕ) (l m : List ℕ) → length m ≡ length l → ((i : ℕ) → i < length l → getD m i 0 ≡ f i (getD l i 0)) → m ≡ each f l
+is-each f l m e h =
+    ext-getD 0 m (each f l) (e ∙ sym (length-each f l))
+    (λ i b. h i (subst (λ (n : ℕ). i < n) e b) ∙ sym (getD-each f l i (subst (λ (n : ℕ). i < n) e b)))
+
+pub each-each : (f g h : ℕ → ℕ → ℕ) (l : List ℕ) → ((i : ℕ) → i < length l → g i (f i (getD l i 0)) ≡ h i (getD l i 0)) → each g (each f l) ≡ each h l
+each-each f g h l e =
+    is-each h l (each g (each f l)) (length-each g (each f l) ∙ length-each f l)
+    (λ i b. getD-each g (each f l) i (omega (arith, length-each f l)) ∙ ap (g i) (getD-each f l i b) ∙ e i b)
+
+pub each-ext : (f g : ℕ → ℕ → ℕ) (l : List ℕ) → ((i : ℕ) → i < length l → f i (getD l i 0) ≡ g i (getD l i 0)) → each f l ≡ each g l
+each-ext f g l h = is-each g l (each f l) (length-each f l) (λ i b. getD-each f l i b ∙ h i b)
+
+-- ---- copied
+
+module _ (chosen : ℕ → Bool) (from : ℕ → ℕ) (r : ℕ) (src dst : List ℕ) where
+  pub length-copied : length (copied chosen from r src dst) ≡ length dst
+  unfolding copied
+  length-copied = length-each (λ i x. cond (chosen (i / r)) (getD src (from (i / r) * r + i % r) 0) x) dst
+
+  pub getD-copied : (i : ℕ) → i < length dst → getD (copied chosen from r src dst) i 0 ≡ cond (chosen (i / r)) (getD src (from (i / r) * r + i % r) 0) (getD dst i 0)
+  unfolding copied
+  getD-copied i h = getD-each (λ i x. cond (chosen (i / r)) (getD src (from (i / r) * r + i % r) 0) x) dst i h
+
+  pub getD-chosen : (i : ℕ) → i < length dst → chosen (i / r) ≡ true → getD (copied chosen from r src dst) i 0 ≡ getD src (from (i / r) * r + i % r) 0
+  getD-chosen i h e = getD-copied i h ∙ ap (λ (t : Bool). cond t (getD src (from (i / r) * r + i % r) 0) (getD dst i 0)) e
+
+  pub getD-left : (i : ℕ) → i < length dst → chosen (i / r) ≡ false → getD (copied chosen from r src dst) i 0 ≡ getD dst i 0
+  getD-left i h e = getD-copied i h ∙ ap (λ (t : Bool). cond t (getD src (from (i / r) * r + i % r) 0) (getD dst i 0)) e
+
+  -- a move done again changes nothing more
+  pub copied-again : copied chosen from r src (copied chosen from r src dst) ≡ copied chosen from r src dst
+  unfolding copied
+  copied-again = each-each f f f dst (λ i b. twice (chosen (i / r)) (getD src (from (i / r) * r + i % r) 0) (getD dst i 0))
+    where
+      f : ℕ → ℕ → ℕ
+      f i x = cond (chosen (i / r)) (getD src (from (i / r) * r + i % r) 0) x
+
+      twice : (t : Bool) (w x : ℕ) → cond t w (cond t w x) ≡ cond t w x
+      twice true w x = refl
+      twice false w x = refl
+
+-- ---- a record's bytes: record y < N of a buffer of N·r bytes, byte j < r of it
+
+pub byte-in : (y N r j : ℕ) → y < N → j < r → y * r + j < N * r
+byte-in y N r j hy hj = omega (arith, le-trans (le-of-eq (sym (suc-mul y r))) (mul-le-mul-right r hy))
+
+pub record-of : (i N r : ℕ) → 0 < r → i < N * r → i / r < N
+record-of i N r h l = div-lt-iff-lt-mul h .1 l
+
+-- two buffers have the same record where they have its bytes
+pub same-record : (r : ℕ) (l k : List ℕ) (N y x : ℕ) → length l ≡ N * r → length k ≡ N * r → y < N → x < N
+    → ((j : ℕ) → j < r → getD l (y * r + j) 0 ≡ getD k (x * r + j) 0) → recordOf r l y ≡ recordOf r k x
+same-record r l k N y x el ek hy hx h =
+    ext-getD 0 (recordOf r l y) (recordOf r k x) (long l y el hy ∙ sym (long k x ek hx))
+    (λ i b. let q : i < r = subst (λ (n : ℕ). i < n) (long l y el hy) b in
+    getD-take r (drop (y * r) l) i 0 q ∙ getD-drop (y * r) l i 0 ∙ h i q ∙ sym (getD-take r (drop (x * r) k) i 0 q ∙ getD-drop (x * r) k i 0))
+  where
+    long : (l : List ℕ) (y : ℕ) → length l ≡ N * r → y < N → length (recordOf r l y) ≡ r
+    long l y e h = simp (length-take, length-drop) (omega (arith, share y h, e))
+      where
+        share : (y : ℕ) → y < N → y * r + r ≤ N * r
+        share y h = le-trans (le-of-eq (sym (suc-mul y r))) (mul-le-mul-right r h)

@@ -1,0 +1,14 @@
+pub mod Bytes
+pub mod Fits
+pub mod Numbers
+pub mod Again
+pub mod Calls
+pub mod Lines
+pub mod Load
+pub mod Pass
+pub mod All
+pub mod Low
+pub mod Drives
+pub mod Keeps
+pub mod Bridge
+pub mod Main

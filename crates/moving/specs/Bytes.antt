@@ -1,0 +1,35 @@
+-- What does a buffer hold after a move, byte by byte and record by record? Record x is the r bytes from byte x·r on. Assumes nothing.
+use mathlib.Core.Bool.{Bool, cond}
+use mathlib.Core.List.{List, [], _∷_}
+use Prim.Native.Nat.{ℕ, zero, suc, _+_, _-_, _*_, _/_, _%_}
+use lib.Dec.{eqb, ltb}
+use lib.ListN.{getD, take, drop}
+
+-- the list with f k x, f (k + 1) y, .. in the place of its elements x, y, ..
+unfoldable pub eachFrom : (ℕ → ℕ → ℕ) → ℕ → List ℕ → List ℕ
+eachFrom f k [] = []
+eachFrom f k (x ∷ xs) = f k x ∷ eachFrom f (suc k) xs
+
+-- as long as l, with f i x at index i, where l has x
+unfoldable pub each : (ℕ → ℕ → ℕ) → List ℕ → List ℕ
+each f l = eachFrom f zero l
+
+-- dst after a move from src: record y, where it is chosen, becomes record `from y` of src; every other byte stays
+unfoldable pub copied : (ℕ → Bool) → (ℕ → ℕ) → ℕ → List ℕ → List ℕ → List ℕ
+copied chosen from r src dst = each (λ i x. cond (chosen (i / r)) (getD src (from (i / r) * r + i % r) 0) x) dst
+
+-- v where i is one of the k indices from a on, and x elsewhere
+unfoldable pub within : ℕ → ℕ → ℕ → ℕ → ℕ → ℕ
+within a k i v x = cond (ltb i a) x (cond (ltb i (a + k)) v x)
+
+-- dst with its k bytes from index a on taken from src, from src's index s on
+unfoldable pub laid : List ℕ → ℕ → ℕ → List ℕ → ℕ → List ℕ
+laid dst a k src s = each (λ i x. within a k i (getD src (s + (i - a)) 0) x) dst
+
+-- the bytes of block Y q become W, on each of D drives; a block is of `size` records of r bytes, and block y lies on drive y % D
+unfoldable pub landed : (ℕ → ℕ) → (ℕ → ℕ) → ℕ → ℕ → ℕ → List ℕ → List ℕ
+landed Y W r size D area = each (λ i x. cond (eqb (i / r / size) (Y (i / r / size % D))) (W i) x) area
+
+-- record x of a buffer
+abbrev pub recordOf : ℕ → List ℕ → ℕ → List ℕ
+recordOf r l x = take r (drop (x * r) l)

@@ -1,0 +1,7 @@
+-- The steps of a plan, on lists of bytes.
+pub mod Bytes
+pub mod Number
+pub mod Step
+pub mod Call
+pub mod Line
+pub mod Blocks
