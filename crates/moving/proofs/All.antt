@@ -1,4 +1,4 @@
--- What do all passes do? Assumes nothing.
+-- What does one pass do to the records, and what do all passes? Assumes nothing.
 use mathlib.Core.Path.{_∙_, _≡_, ap, ap₂, refl, subst, sym}
 use mathlib.Core.Bool.{Bool, false, not, true}
 use mathlib.Core.List.{List, [], _++_, _∷_}

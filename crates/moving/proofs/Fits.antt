@@ -14,7 +14,7 @@ use Rattle.moving.proofs.Bytes.{length-copied}
 use Rattle.moving.specs.Bytes.{copied}
 use Rattle.moving.specs.Call.{movesFrom}
 use Rattle.moving.specs.Number.{loadOf, passOf, phaseOf, turnOf}
-use Rattle.moving.specs.Step.{Buffers, areaBy, areaOf, byPhase, even, fits, move, readFrom, readMove, readTakes, withAreaBy, withMemory, writeFrom, writeMove, writeTakes}
+use Rattle.moving.specs.Step.{Buffers, areaBy, areaOf, byPhase, even, fits, move, moves, readFrom, readMove, readTakes, withAreaBy, withMemory, writeFrom, writeMove, writeTakes}
 use Rattle.planning.specs.Pass.{Pass, Route, passAt}
 
 -- the three lengths, one by one
@@ -84,6 +84,11 @@ module _ (g : Geometry) where
 
       written-long : length written ≡ length (areaBy other v)
       written-long = length-copied (writeTakes its pass (loadOf route s) (turnOf route s)) (writeFrom its pass) (its .r) (v .memory) (areaBy other v)
+
+  pub moves-fits : (route : Route) (k : ℕ) (v : Buffers) → Fits g v → Fits g (moves route k v)
+  unfolding moves
+  moves-fits route zero v f = f
+  moves-fits route (suc k) v f = move-fits route k (moves route k v) (moves-fits route k v f)
 
   pub moves-from-fits : (route : Route) (s k : ℕ) (v : Buffers) → Fits g v → Fits g (movesFrom route s k v)
   unfolding movesFrom

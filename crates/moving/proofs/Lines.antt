@@ -1,5 +1,5 @@
 -- What does a line of calls keep, and which lines reach the end? Assumes nothing.
-use mathlib.Core.Path.{_∙_, _≡_, ap, ap₂, refl, sym}
+use mathlib.Core.Path.{_∙_, _≡_, ap, ap₂, refl, subst, sym}
 use mathlib.Core.Bool.{Bool, cond, false, true}
 use mathlib.Core.List.{List, [], _∷_}
 use Prim.Native.Nat.{_+_, _-_, _<_, _≤_, suc, zero, zero-le, ℕ}
@@ -9,7 +9,8 @@ use native.Mathlib.Omega.{arith}
 use lib.Dec.{eqb}
 use Rattle.bank.proofs.Limits.{and-l, and-r}
 use Rattle.moving.proofs.Again.{move-again}
-use Rattle.moving.proofs.Calls.{Ready, again-number, by-run, by-step, next-number, nine-means, refused-count, refused-keeps, refused-run, run-again, run-count, run-none, run-one, run-ready, run-same, step-done, step-nine, step-ready}
+use Rattle.moving.proofs.Calls.{Ready, again-number, by-run, by-step, next-number, nine-means, ready-run, refused-count, refused-keeps, refused-run, run-again, run-count, run-none, run-one, run-ready, run-same, step-done, step-nine, step-ready}
+use Rattle.moving.proofs.Fits.{Fits, moves-fits}
 use Rattle.moving.specs.Call.{Moment, buffersBy, fresh, movesFrom, nextBy, ran, runCount, stepNumber, stepped}
 use Rattle.moving.specs.Line.Call.{asks, runs, strays}
 use Rattle.moving.specs.Line.{Call, call, line, lineSteps, newSteps, refuses, strayed, straysRefused}
@@ -93,6 +94,15 @@ module _ (plan : Plan) (v : Buffers) where
   pub any-line : (cs : List Call) → straysRefused plan (fresh v) cs ≡ true → Kept plan v (line plan (fresh v) cs)
   any-line cs e = kept-line (fresh v) cs e kept-fresh
 
+  -- and the line's calls stay ready
+  pub kept-ready : (moment : Moment) → Kept plan v moment → Ready plan (fresh v) → Ready plan moment
+  kept-ready moment k r =
+      record {
+        sound-plan = r .sound-plan;
+        within = k .within;
+        fitting = subst (Fits (plan .geometry)) (sym (k .once)) (moves-fits (plan .geometry) (routeOf plan) (moment .next) v (r .fitting));
+      }
+
 -- ---- the steps of a line, repeats left out, are as many as it advances
 
 call-advance : (plan : Plan) (moment : Moment) (c : Call) → call plan moment c .next ≡ moment .next + newSteps plan moment c
@@ -163,7 +173,12 @@ module _ (plan : Plan) where
   pub in-turn : (more : ℕ → ℕ) (v : Buffers) → Ready plan (fresh v) → line plan (fresh v) (inTurn more (total (routeOf plan)) 0) .next ≡ total (routeOf plan)
   in-turn more v r = in-turn-from more (total (routeOf plan)) 0 (omega arith) (fresh v) (record { ready = r; here = refl }) ∙ omega arith
 
-  -- it has no stray call
+  -- and so does one run with enough allowance
+  pub run-through : (q : ℕ) (v : Buffers) → total (routeOf plan) ≤ q → Ready plan (fresh v) → line plan (fresh v) (runs q ∷ []) .next ≡ total (routeOf plan)
+  unfolding line call ran
+  run-through q v h r = omega (arith, run-count plan (fresh v) q (ready-run plan (fresh v) r))
+
+  -- the first has no stray call
   no-repeat-strays : (i j : ℕ) (rest : List Call) → ((moment : Moment) → straysRefused plan moment rest ≡ true) → (moment : Moment) → straysRefused plan moment (repeated i j rest) ≡ true
   unfolding repeated straysRefused
   no-repeat-strays zero j rest f moment = f moment

@@ -213,7 +213,7 @@ module _ (n b m : ℕ) (rows : List ℕ) (c : ℕ) (hb : b ≤ m) (hm : m ≤ n)
       place-affine l w k hw (lt-of-lt-of-le hk (pow-mono hb))
       ∙ ap (bitXor (place l w)) (sym (inverse-apply m (take m rows) low-regular low-length k (lt-of-lt-of-le hk (pow-mono hb))) ∙ sym (apply-columns b (inverse m (take m rows)) k hk))
 
-  -- ---- for code: from the m columns E of the inverse of the low rows, and what A makes of them
+  -- ---- for code: from the m columns E of the inverse of the low rows
 
   low-shift : (k w : ℕ) → k < 2 ^ m → w < 2 ^ m → source m (take m rows) k w ≡ source m (take m rows) 0 (bitXor w k)
   low-shift k w hk hw =

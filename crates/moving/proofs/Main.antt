@@ -1,8 +1,8 @@
--- What do calls promise? The laws of this crate, for readers, in one place. Assumes nothing.
-use mathlib.Core.Path.{_∙_, _≡_, ap, ap₂, sym}
+-- What do calls promise? The laws of this crate in one place; what one pass does stands in All, and what stays in a step in Keeps. Assumes nothing.
+use mathlib.Core.Path.{_∙_, _≡_, ap, ap₂, refl, sym}
 use mathlib.Core.Bool.{false, true}
-use mathlib.Core.List.{List}
-use Prim.Native.Nat.{_%_, _*_, _+_, _-_, _/_, _<_, _^_, min, ℕ}
+use mathlib.Core.List.{List, [], _∷_}
+use Prim.Native.Nat.{_%_, _*_, _+_, _-_, _/_, _<_, _^_, _≤_, min, ℕ}
 use native.Mathlib.Nat.{zero-add}
 use lib.Dec.{eqb}
 use lib.ListN.{length}
@@ -17,6 +17,7 @@ use Rattle.moving.proofs.Lines.{Kept, inTurn}
 use Rattle.moving.specs.Blocks.{stepBlock}
 use Rattle.moving.specs.Bytes.{recordOf}
 use Rattle.moving.specs.Call.{Moment, fresh, ran, runCount, runNumber, stepNumber, stepped}
+use Rattle.moving.specs.Line.Call.{runs}
 use Rattle.moving.specs.Line.{Call, line, lineSteps, refuses, straysRefused}
 use Rattle.moving.specs.Step.{Buffers, areaOf, fits, moves, touches}
 use Rattle.planning.proofs.Runs.{Runs}
@@ -66,6 +67,12 @@ run-again = calls.run-again
 pub any-line : (plan : Plan) (v : Buffers) (cs : List Call) → straysRefused plan (fresh v) cs ≡ true → Kept plan v (line plan (fresh v) cs)
 any-line = lines.any-line
 
+-- no call of such a line is refused with 7 or 4, where the first is not
+pub line-ready : (plan : Plan) (v : Buffers) (cs : List Call) → canRun plan 0 ≡ true → fits (plan .geometry) v ≡ true → straysRefused plan (fresh v) cs ≡ true
+    → runNumber plan (line plan (fresh v) cs) ≡ 0
+line-ready plan v cs e f h =
+    calls.ready-run plan (line plan (fresh v) cs) (lines.kept-ready plan v (line plan (fresh v) cs) (any-line plan v cs h) (calls.can→ready plan (fresh v) e f))
+
 -- and next has advanced by the line's steps, repeats left out
 pub line-advance : (plan : Plan) (moment : Moment) (cs : List Call) → line plan moment cs .next ≡ moment .next + lineSteps plan moment cs
 line-advance = lines.line-advance
@@ -96,6 +103,11 @@ module _ (plan : Plan) (can : Runs (routeOf plan)) (rows : List ℕ) (c : ℕ)
   pub in-turn-delivers : canRun plan 0 ≡ true → (more : ℕ → ℕ) → Delivered plan rows c v (inTurn more (total (routeOf plan)) 0)
   in-turn-delivers e more =
       delivered (inTurn more (total (routeOf plan)) 0) (lines.no-strays plan more (total (routeOf plan)) 0 (fresh v)) (lines.in-turn plan more v (calls.can→ready plan (fresh v) e fitting))
+
+  -- and one run with enough allowance
+  pub run-delivers : canRun plan 0 ≡ true → (q : ℕ) → total (routeOf plan) ≤ q → Delivered plan rows c v (runs q ∷ [])
+  unfolding straysRefused
+  run-delivers e q h = delivered (runs q ∷ []) refl (lines.run-through plan q v h (calls.can→ready plan (fresh v) e fitting))
 
 -- ---- a step moves one block on a drive
 
