@@ -6,7 +6,8 @@ use native.Mathlib.Nat.{add-zero, div-one, le-of-suc-le-suc, lt-of-lt-of-le, mod
 use native.Mathlib.Numerals.{add-one}
 use native.Mathlib.Omega.{arith}
 use lib.Pow.{mod-pow-add, pow-mono, pow-pos, shr-shr}
-use lib.ListN.{getD, length, length-map}
+use lib.ListN.{getD, length, length-map, take}
+use lib.Seq.{getD-take, length-take-le}
 use lib.Bits.{and-comm}
 use Rattle.algebra.proofs.Linear.{apply-lt, dot-comb, dot-unit}
 use Rattle.algebra.specs.Matrix.{apply, columns, identity, product}
@@ -56,14 +57,15 @@ pub columns-length : (n : ℕ) (rows : List ℕ) → length (columns n rows) ≡
 unfolding columns
 columns-length n rows = length-map (units n 0) (apply rows) ∙ units-length n 0
 
--- the rows of a product
-pub product-at : (a b : List ℕ) (i : ℕ) → i < length a → getD (product a b) i 0 ≡ comb b (getD a i 0)
-unfolding product
-product-at a b i h = map-at (comb b) a i h
+-- ---- the rows of a product, of as many rows as are taken
+module _ (n : ℕ) (a b : List ℕ) (h : n ≤ length a) where
+  pub product-length : length (product (take n a) b) ≡ n
+  unfolding product
+  product-length = length-map (take n a) (comb b) ∙ length-take-le n a h
 
-pub product-length : (a b : List ℕ) → length (product a b) ≡ length a
-unfolding product
-product-length a b = length-map a (comb b)
+  pub product-at : (i : ℕ) → i < n → getD (product (take n a) b) i 0 ≡ comb b (getD a i 0)
+  unfolding product
+  product-at i l = map-at (comb b) (take n a) i (omega (arith, length-take-le n a h)) ∙ ap (comb b) (getD-take n a i 0 l)
 
 -- ---- columns of a list of columns is the list of rows
 rows-from : (cols : List ℕ) (m j x : ℕ) → apply (map (apply cols) (units m j)) x ≡ comb cols x / 2 ^ j % 2 ^ m

@@ -5,10 +5,7 @@ use Prim.Native.Nat.{_+_, _-_, _<_, _≤_, suc, ℕ}
 use native.Mathlib.Numerals.{add-one}
 use native.Mathlib.Omega.{arith}
 use lib.ListN.{getD, length, replicate, set, take}
-use lib.Seq.{append-snoc, getD-take, length-take-le, set-at, take-all, take-suc}
-use Rattle.algebra.specs.Matrix.{product}
-use Rattle.algebra.specs.Vector.{comb}
-use Rattle.algebra.proofs.Columns.{product-at, product-length}
+use lib.Seq.{append-snoc, length-take-le, set-at, take-all, take-suc}
 
 -- the first j numbers of a list, and zeros up to the array's room
 abbrev pub filled : ℕ → List ℕ → ℕ → List ℕ
@@ -26,11 +23,3 @@ module _ (room : ℕ) (list : List ℕ) (fits : length list ≤ room) where
 
   pub filled-all : (n j : ℕ) (array : List ℕ) → length list ≡ n → j ≡ n → array ≡ filled room list j → array ≡ list ++ replicate (room - n) 0
   filled-all n j array l q e = e ∙ ap₂ (λ (a : List ℕ) (k : ℕ). a ++ replicate (room - k) 0) (take-all j list (omega arith)) q
-
--- ---- the product of two arrays of n rows, row by row
-module _ (n : ℕ) (a b : List ℕ) (h : n ≤ length a) where
-  pub product-rows : length (product (take n a) (take n b)) ≡ n
-  product-rows = product-length (take n a) (take n b) ∙ length-take-le n a h
-
-  pub product-row : (i : ℕ) → i < n → getD (product (take n a) (take n b)) i 0 ≡ comb (take n b) (getD a i 0)
-  product-row i l = product-at (take n a) (take n b) i (omega (arith, length-take-le n a h)) ∙ ap (comb (take n b)) (getD-take n a i 0 l)

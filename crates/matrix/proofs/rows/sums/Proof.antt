@@ -5,8 +5,9 @@ use native.Mathlib.Omega.{arith}
 use lib.ListN.{length, take}
 use borrow.Author.Needs.{needs}
 use Rattle.bank.specs.Limits.{ROWS}
-use Rattle.matrix.proofs.Filled.{filled, filled-all, filled-next, product-row, product-rows}
+use Rattle.matrix.proofs.Filled.{filled, filled-all, filled-next}
 use Rattle.algebra.specs.Matrix.{product}
+use Rattle.algebra.proofs.Columns.{product-at, product-length}
 use Rattle.matrix.proofs.rows.sums.Statement.{statement}
 use Rattle.matrix.proofs.rows.sums.Tie as tie
 
@@ -47,9 +48,9 @@ loop-again c =
     let b = s .args .vectors .now in
     let n = s .args .n in
     let l = c .before .before .loop in
-    let long : length (product (take n a) (take n b)) ≡ n = product-rows n a b (omega arith) in (
+    let long : length (product (take n a) (take n b)) ≡ n = product-length n a (take n b) (omega arith) in (
       search needs,
-      filled-next ROWS (product (take n a) (take n b)) (omega arith) (l .i) (c .sum .result) (l .rows) (omega arith) (l .inv .1) (cc (product-row n a b (omega arith) (l .i) (search needs))),
+      filled-next ROWS (product (take n a) (take n b)) (omega arith) (l .i) (c .sum .result) (l .rows) (omega arith) (l .inv .1) (cc (product-at n a (take n b) (omega arith) (l .i) (search needs))),
     )
 
 returns : tie.Need-returns Inv-loop μ-loop
@@ -59,7 +60,7 @@ returns c =
     let b = s .args .vectors .now in
     let n = s .args .n in
     let l = c .before .loop in
-    let long : length (product (take n a) (take n b)) ≡ n = product-rows n a b (omega arith) in
+    let long : length (product (take n a) (take n b)) ≡ n = product-length n a (take n b) (omega arith) in
     filled-all ROWS (product (take n a) (take n b)) (omega arith) n (l .i) (l .rows) long (omega arith) (l .inv .1)
 
 pub sums-spec : {M : Type 1} → statement M
