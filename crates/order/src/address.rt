@@ -45,7 +45,8 @@ pub fn target_of(order: Order, x: Address) -> Target
     }
     let g = order.geometry;
     let rows = order.rows;
-    let y = matrix::rows::apply(&rows, g.n as usize, x.0 as u32) ^ order.complement;
+    let from = x.0 as u32;
+    let y = matrix::rows::apply(&rows, g.n as usize, from) ^ order.complement;
     Target {
         number: 0,
         address: Address(bank::wide(y)),

@@ -14,11 +14,12 @@ question-requires c κs = search needs
 returns : tie.Need-returns
 returns c = target-refused (c .before .before .args .order) (c .before .before .args .x .0) (c .before .question .result) (c .before .question .ensures) (c .if1 .taken)
 
+cast-from : tie.Need-cast-from
+cast-from c =
+    record { fits = in-word (c .before .before .before .before .before .args .order) (c .before .before .before .before .before .args .x .0) (sym (c .before .before .before .before .question .ensures) ∙ c .before .before .before .if1 .left) }
+
 cast-apply : tie.Need-cast-apply
 cast-apply c = search needs
-
-cast-apply-2 : tie.Need-cast-apply-2
-cast-apply-2 c = record { fits = in-word (c .before .before .before .before .before .before .before .args .order) (c .before .before .before .before .before .before .before .args .x .0) (sym (c .before .before .before .before .before .before .question .ensures) ∙ c .before .before .before .before .before .if1 .left) }
 
 apply-requires : tie.Need-apply-requires
 apply-requires c κs = settled (c .before .before .before .before .before .before .before .args .order) (c .before .before .before .before .before .before .before .args .x .0) (sym (c .before .before .before .before .before .before .question .ensures) ∙ c .before .before .before .before .before .if1 .left) .0
@@ -38,8 +39,8 @@ target-of-spec =
     (tie.spec
     question-requires
     returns
+    cast-from
     cast-apply
-    cast-apply-2
     apply-requires
     wide-requires
     returns-2)
