@@ -26,6 +26,10 @@ use Rattle.algebra.specs.Elimination.{Echelon, built, rest, used}
 use Rattle.algebra.specs.Matrix.{apply, columns, inverse, singular, source, spills}
 use Rattle.algebra.specs.Vector.{comb}
 
+-- ---- all of the first n rows, as a part of the rows
+pub columns-whole : (room n : ℕ) (rows cols : List ℕ) → cols ≡ columns n (take (n - 0) rows) ++ replicate (room - n) 0 → cols ≡ columns n (take n rows) ++ replicate (room - n) 0
+columns-whole room n rows cols e = e ∙ ap (λ (k : ℕ). columns n (take k rows) ++ replicate (room - n) 0) (sub-zero n)
+
 -- ---- the entries made of the columns of a matrix, where zeros follow the columns
 module _ (room n : ℕ) (rows cols : List ℕ) (hn : n ≤ room) (hr : room ≤ 32) (hl : length rows ≤ n) (hc : cols ≡ columns n rows ++ replicate (room - n) 0) where
   column-is : (j : ℕ) → j < n → getD cols j 0 ≡ getD (columns n rows) j 0
