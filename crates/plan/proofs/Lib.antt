@@ -1,1 +1,3 @@
 pub mod Lower
+pub mod Masks
+pub mod Marked
