@@ -11,7 +11,7 @@ use bank::ROWS;
 use matrix::rows::product;
 
 // The columns of a round's pass, E S, and of what is left.
-pub struct Round {
+pub struct Rounded {
     pub pass: [u32; ROWS],
     pub cols: [u32; ROWS],
 }
@@ -41,7 +41,7 @@ pub fn erases(cols: &[u32; ROWS], n: usize, b: usize, m: usize) -> [u32; ROWS]
 }
 
 // One round of a matrix of n columns.
-pub fn round(cols: &[u32; ROWS], n: usize, b: usize, m: usize) -> Round
+pub fn round(cols: &[u32; ROWS], n: usize, b: usize, m: usize) -> Rounded
     requires { ⌜ (b < m) × (m < n) × (n ≤ ROWS) × Sound n m (take n (now cols)) ⌝ }
     ensures { λ r. ⌜ (r .pass ≡ after (erases n b m (after (take n (now (cols .entry))) (swaps n b m (take n (now (cols .entry)))))) (swaps n b m (take n (now (cols .entry)))) ++ replicate (ROWS - n) 0) × (r .cols ≡ after (after (take n (now (cols .entry))) (swaps n b m (take n (now (cols .entry))))) (erases n b m (after (take n (now (cols .entry))) (swaps n b m (take n (now (cols .entry)))))) ++ replicate (ROWS - n) 0) ⌝ }
 {
@@ -50,5 +50,5 @@ pub fn round(cols: &[u32; ROWS], n: usize, b: usize, m: usize) -> Round
     let e = erases(&swapped, n, b, m);
     let pass = product(&s, &e, n);
     let left = product(&e, &swapped, n);
-    Round { pass, cols: left }
+    Rounded { pass, cols: left }
 }
