@@ -19,7 +19,7 @@ use Rattle.algebra.specs.Elimination.{Echelon, choose, grown, rest, used
 use Rattle.algebra.specs.Matrix.{apply}
 use Rattle.algebra.specs.Vector.{bit, comb, parity, times}
 
--- no row yet
+-- ---- applying: no row yet
 pub apply-start : (rows : List ℕ) (n x : ℕ) → apply (drop n (take n rows)) x ≡ 0
 unfolding apply
 apply-start rows n x = ap (λ (l : List ℕ). apply l x) (drop-of-length-le (take n rows) {i = n} (simp length-take (omega arith)))
@@ -33,14 +33,19 @@ back [] (suc n) (suc i) x h = refl
 back (r ∷ rs) (suc n) zero x h = refl
 back (r ∷ rs) (suc n) (suc i) x h = back rs n i x (le-of-suc-le-suc h)
 
-pub apply-back : (rows : List ℕ) (n i x : ℕ) → 0 < i → i ≤ n
+apply-back : (rows : List ℕ) (n i x : ℕ) → 0 < i → i ≤ n
     → apply (drop i (take n rows)) x * 2 + parity (bitAnd (getD rows (i - 1) 0) x) ≡ apply (drop (i - 1) (take n rows)) x
 apply-back rows n zero x p h = absurd (not-suc-le-zero p)
 apply-back rows n (suc i) x p h = rw (sub-one (suc i)) (back rows n i x h)
 
--- a matrix of at most k rows gives numbers of k bits
-pub apply-fits : (k : ℕ) (rows : List ℕ) (n i x : ℕ) → n ≤ k → apply (drop i (take n rows)) x < 2 ^ k
-apply-fits k rows n i x h = lt-of-lt-of-le (apply-lt (drop i (take n rows)) x) (pow-mono (simp (length-drop, length-take) (omega arith)))
+-- no longer than k past place i: k bits
+pub apply-tight : (k : ℕ) (rows : List ℕ) (n i x : ℕ) → n ≤ k + i → apply (drop i (take n rows)) x < 2 ^ k
+apply-tight k rows n i x h = lt-of-lt-of-le (apply-lt (drop i (take n rows)) x) (pow-mono (simp (length-drop, length-take) (omega arith)))
+
+-- the rows from place f on
+pub part-back : (rows : List ℕ) (f n i x : ℕ) → 0 < i → i ≤ n
+    → apply (drop i (take n (drop f rows))) x * 2 + parity (bitAnd (getD rows (f + (i - 1)) 0) x) ≡ apply (drop (i - 1) (take n (drop f rows))) x
+part-back rows f n i x p h = rw (← getD-drop f rows (i - 1) 0) (apply-back (drop f rows) n i x p h)
 
 -- ---- reducing: one entry more
 pub rest-next : (ws qs : List ℕ) (i v : ℕ) → bitXor (rest ws qs i v) (times (bit (rest ws qs i v) (getD qs i 0)) (getD ws i 0)) ≡ rest ws qs (i + 1) v
@@ -93,15 +98,6 @@ grown-entry b j col l w t p f q r =
     e
     ∙ sym (ap (λ (x : Bool). choose x b (withEntry b (rest (b .vectors) (b .pivots) (b .count) col) (bitXor (2 ^ j) (used (b .vectors) (b .pivots) (b .tags) (b .count) col))))
     (ne-eqb (rest (b .vectors) (b .pivots) (b .count) col) 0 (λ z. f (p ∙ z))))
-
--- no longer than k past place i: k bits
-pub apply-tight : (k : ℕ) (rows : List ℕ) (n i x : ℕ) → n ≤ k + i → apply (drop i (take n rows)) x < 2 ^ k
-apply-tight k rows n i x h = lt-of-lt-of-le (apply-lt (drop i (take n rows)) x) (pow-mono (simp (length-drop, length-take) (omega arith)))
-
--- the rows from place f on
-pub part-back : (rows : List ℕ) (f n i x : ℕ) → 0 < i → i ≤ n
-    → apply (drop i (take n (drop f rows))) x * 2 + parity (bitAnd (getD rows (f + (i - 1)) 0) x) ≡ apply (drop (i - 1) (take n (drop f rows))) x
-part-back rows f n i x p h = rw (← getD-drop f rows (i - 1) 0) (apply-back (drop f rows) n i x p h)
 
 -- ---- summing: one vector more. Past the end of the list there is nothing to add
 comb-at : (vs : List ℕ) (j s : ℕ) → comb (drop j vs) s ≡ bitXor (times (s % 2) (getD vs j 0)) (comb (drop (suc j) vs) (s / 2))

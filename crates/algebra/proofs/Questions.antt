@@ -1,5 +1,5 @@
 -- What does an elimination answer: singular, the source of an address, whether a pass spills? Assumes nothing.
-use mathlib.Core.Path.{_∙_, _≡_, ap, ap₂, subst, sym}
+use mathlib.Core.Path.{_∙_, _≡_, ap, subst, sym}
 use mathlib.Core.Bool.{false, true}
 use mathlib.Core.List.{List, [], _++_, _∷_}
 use Prim.Native.Nat.{_+_, _-_, _<_, _^_, _≤_, suc, zero, ℕ}

@@ -1,6 +1,6 @@
 -- What does an array hold that a loop fills from the front, with zeros in the places after? Assumes nothing.
 use mathlib.Core.Path.{_∙_, _≡_, ap, ap₂, sym}
-use mathlib.Core.List.{List, [], _++_, _∷_}
+use mathlib.Core.List.{List, _++_}
 use Prim.Native.Nat.{_+_, _-_, _<_, _≤_, suc, ℕ}
 use native.Mathlib.Numerals.{add-one}
 use native.Mathlib.Omega.{arith}

@@ -1,11 +1,10 @@
 // What one elimination answers.
 ghost use mathlib.Core.Path.{_≡_};
 ghost use mathlib.Core.Bool.{false};
-ghost use mathlib.Core.List.{map, _++_};
+ghost use mathlib.Core.List.{_++_};
 ghost use Prim.Native.Nat.{_<_, _≤_, _-_, _^_};
 ghost use lib.ListN.{take, replicate};
 ghost use Rattle.bank.specs.Limits.{ROWS};
-ghost use Rattle.algebra.specs.Vector.{units};
 ghost use Rattle.algebra.specs.Matrix.{singular, source, inverse, columns, spills};
 use crate::echelon::Echelon;
 use crate::echelon::eliminate;

@@ -130,14 +130,14 @@ module _ (g : Geometry) (rows : List ℕ) (c : ℕ) (hg : inLimits g ≡ true) (
   pub performs : (x : ℕ) → x < 2 ^ g .n → performed (routeOf (planFor g rows c) .passes) x ≡ target rows c x
   performs x h = ap (λ (r : Route). performed (r .passes) x) holds ∙ made-performs g rows c hg hr hs x h
 
--- ---- any plan that can run, whoever made it
--- what makes it sound is what its passes need to run
-pub can-run-runs : (plan : Plan) → length (plan .rows) ≡ PASSES * ROWS → sound plan ≡ true → Runs (routeOf plan)
-can-run-runs = sound→runs
+-- ---- any sound plan, whoever made it
+-- its passes can run
+pub sound-runs : (plan : Plan) → length (plan .rows) ≡ PASSES * ROWS → sound plan ≡ true → Runs (routeOf plan)
+sound-runs = sound→runs
 
--- a route that can run is sound when it is stored, and comes back
-pub runs-can-run : (route : Route) → Runs route → sound (planOf route) ≡ true
-runs-can-run = runs→sound
+-- a route that can run is a sound plan when it is stored, and comes back
+pub runs-sound : (route : Route) → Runs route → sound (planOf route) ≡ true
+runs-sound = runs→sound
 
 pub comes-back : (route : Route) → Runs route → routeOf (planOf route) ≡ route
 comes-back = runs-back

@@ -57,12 +57,12 @@ busy-some m cols e =
 pub rounds-stop : (g n b m : ℕ) (cols : List ℕ) → busy m cols ≡ false → rounds g n b m cols ≡ cols ∷ []
 unfolding rounds
 rounds-stop zero n b m cols e = refl
-rounds-stop (suc g) n b m cols e = ap (λ (x : Bool). elim x [ false ↦ cols ∷ [] | true ↦ after (erases n b m (after cols (swaps n b m cols))) (swaps n b m cols) ∷ rounds g n b m (after (after cols (swaps n b m cols)) (erases n b m (after cols (swaps n b m cols)))) ]) e
+rounds-stop (suc g) n b m cols e = rw (rounds, e)
 
 pub rounds-go : (g n b m : ℕ) (cols : List ℕ) → busy m cols ≡ true
     → rounds (suc g) n b m cols ≡ after (erases n b m (after cols (swaps n b m cols))) (swaps n b m cols) ∷ rounds g n b m (after (after cols (swaps n b m cols)) (erases n b m (after cols (swaps n b m cols))))
 unfolding rounds
-rounds-go g n b m cols e = ap (λ (x : Bool). elim x [ false ↦ cols ∷ [] | true ↦ after (erases n b m (after cols (swaps n b m cols))) (swaps n b m cols) ∷ rounds g n b m (after (after cols (swaps n b m cols)) (erases n b m (after cols (swaps n b m cols)))) ]) e
+rounds-go g n b m cols e = rw (rounds, e)
 
 pub idle : (m : ℕ) (cols : List ℕ) → nonzero m cols ≡ 0 → busy m cols ≡ false
 idle m cols e = go (busy m cols) refl
@@ -152,27 +152,25 @@ module _ (n b m : ℕ) (hb : b ≤ m) (hm : m ≤ n) where
 
   -- every pass can run
   pub rounds-good : b < m → (g : ℕ) (cols : List ℕ) → Sound n m cols → nonzero m cols ≤ g → All (Good n b m) (rounds g n b m cols)
-  unfolding rounds
-  rounds-good hlt zero cols k h = (last-good cols k (omega arith), tt)
+  rounds-good hlt zero cols k h = subst (All (Good n b m)) (sym (rounds-stop zero n b m cols (idle m cols (omega arith)))) (last-good cols k (omega arith), tt)
   rounds-good hlt (suc g) cols k h = go (busy m cols) refl (λ q. rounds-good hlt g (nx cols) (next-sound n b m hb hm cols k) (omega (arith, next-nonzero n b m hb hm cols k, q)))
     where
-      go : (x : Bool) → busy m cols ≡ x → (0 < nonzero m cols → All (Good n b m) (rounds g n b m (nx cols)))
-          → All (Good n b m) (elim x [ false ↦ cols ∷ [] | true ↦ after (erases n b m (after cols (swaps n b m cols))) (swaps n b m cols) ∷ rounds g n b m (nx cols) ])
-      go false e ih = (last-good cols k (idle-none m cols e), tt)
-      go true e ih = (round-good cols k, ih (busy-some m cols e))
+      go : (x : Bool) → busy m cols ≡ x → (0 < nonzero m cols → All (Good n b m) (rounds g n b m (nx cols))) → All (Good n b m) (rounds (suc g) n b m cols)
+      go false e ih = subst (All (Good n b m)) (sym (rounds-stop (suc g) n b m cols e)) (last-good cols k (idle-none m cols e), tt)
+      go true e ih = subst (All (Good n b m)) (sym (rounds-go g n b m cols e)) (round-good cols k, ih (busy-some m cols e))
 
   -- their number
   pub rounds-length : b < m → (g : ℕ) (cols : List ℕ) → Sound n m cols → nonzero m cols ≤ g → length (rounds g n b m cols) ≡ suc (dividedUp (nonzero m cols) (m - b))
-  unfolding rounds
-  rounds-length hlt zero cols k h = ap suc (sym (ap (λ (u : ℕ). dividedUp u (m - b)) (omega arith) ∙ up-zero (m - b) (omega arith)))
+  rounds-length hlt zero cols k h =
+      ap length (rounds-stop zero n b m cols (idle m cols (omega arith))) ∙ ap suc (sym (ap (λ (u : ℕ). dividedUp u (m - b)) (omega arith) ∙ up-zero (m - b) (omega arith)))
   rounds-length hlt (suc g) cols k h = go (busy m cols) refl (λ q. rounds-length hlt g (nx cols) (next-sound n b m hb hm cols k) (omega (arith, next-nonzero n b m hb hm cols k, q)))
     where
-      go : (x : Bool) → busy m cols ≡ x → (0 < nonzero m cols → length (rounds g n b m (nx cols)) ≡ suc (dividedUp (nonzero m (nx cols)) (m - b)))
-          → length {A = List ℕ} (elim x [ false ↦ cols ∷ [] | true ↦ after (erases n b m (after cols (swaps n b m cols))) (swaps n b m cols) ∷ rounds g n b m (nx cols) ]) ≡ suc (dividedUp (nonzero m cols) (m - b))
-      go false e ih = ap suc (sym (ap (λ (u : ℕ). dividedUp u (m - b)) (idle-none m cols e) ∙ up-zero (m - b) (omega arith)))
+      go : (x : Bool) → busy m cols ≡ x → (0 < nonzero m cols → length (rounds g n b m (nx cols)) ≡ suc (dividedUp (nonzero m (nx cols)) (m - b))) → length (rounds (suc g) n b m cols) ≡ suc (dividedUp (nonzero m cols) (m - b))
+      go false e ih = ap length (rounds-stop (suc g) n b m cols e) ∙ ap suc (sym (ap (λ (u : ℕ). dividedUp u (m - b)) (idle-none m cols e) ∙ up-zero (m - b) (omega arith)))
       go true e ih =
           let z = busy-some m cols e in
-          ap suc (ih z ∙ ap (λ (u : ℕ). suc (dividedUp u (m - b))) (next-nonzero n b m hb hm cols k) ∙ sym (up-step (nonzero m cols) (m - b) z (omega arith)))
+          ap length (rounds-go g n b m cols e)
+          ∙ ap suc (ih z ∙ ap (λ (u : ℕ). suc (dividedUp u (m - b))) (next-nonzero n b m hb hm cols k) ∙ sym (up-step (nonzero m cols) (m - b) z (omega arith)))
 
   -- ---- performed one after the other
   pub pass-moves : (p : List ℕ) (c x : ℕ) → comb p x < 2 ^ n → target (columns n p) c x ≡ bitXor (comb p x) c
@@ -182,16 +180,16 @@ module _ (n b m : ℕ) (hb : b ≤ m) (hm : m ≤ n) where
   rounds-some : (g : ℕ) (cols : List ℕ) → 0 < length (map (columns n) (rounds g n b m cols))
   unfolding rounds
   rounds-some zero cols = omega arith
-  rounds-some (suc g) cols = go (busy m cols)
+  rounds-some (suc g) cols = go (busy m cols) refl
     where
-      go : (x : Bool) → 0 < length (map (columns n) (elim x [ false ↦ cols ∷ [] | true ↦ after (erases n b m (after cols (swaps n b m cols))) (swaps n b m cols) ∷ rounds g n b m (nx cols) ]))
-      go true = omega arith
-      go false = omega arith
+      go : (x : Bool) → busy m cols ≡ x → 0 < length (map (columns n) (rounds (suc g) n b m cols))
+      go true e = omega (arith, ap (λ (l : List (List ℕ)). length (map (columns n) l)) (rounds-go g n b m cols e))
+      go false e = omega (arith, ap (λ (l : List (List ℕ)). length (map (columns n) l)) (rounds-stop (suc g) n b m cols e))
 
   pub rounds-move : (g : ℕ) (cols : List ℕ) → Sound n m cols → (c x : ℕ) → x < 2 ^ n → performed (complemented (map (columns n) (rounds g n b m cols)) c) x ≡ bitXor (comb cols x) c
   unfolding rounds performed complemented
   rounds-move zero cols k c x h = pass-moves cols c x (k .small x)
-  rounds-move (suc g) cols k c x h = go (busy m cols) (λ y l. rounds-move g (nx cols) (next-sound n b m hb hm cols k) c y l)
+  rounds-move (suc g) cols k c x h = go (busy m cols) refl (λ y l. rounds-move g (nx cols) (next-sound n b m hb hm cols k) c y l)
     where
       s : List ℕ
       s = swaps n b m cols
@@ -210,11 +208,14 @@ module _ (n b m : ℕ) (hb : b ≤ m) (hm : m ≤ n) where
           next-is n b m hb hm cols k y ∙ ap (λ (u : ℕ). comb cols (comb s (comb e u))) (comb-after e s x)
           ∙ ap (λ (u : ℕ). comb cols (comb s u)) (erases-twice n b m hb hm cols k (comb s x) (S-lt n b m hb hm cols x)) ∙ ap (comb cols) (S-twice n b m hb hm cols x h)
 
-      go : (q : Bool) → ((y : ℕ) → y < 2 ^ n → performed (complemented (map (columns n) (rounds g n b m (nx cols))) c) y ≡ bitXor (comb (nx cols) y) c)
-          → performed (complemented (map (columns n) (elim q [ false ↦ cols ∷ [] | true ↦ after (erases n b m (after cols (swaps n b m cols))) (swaps n b m cols) ∷ rounds g n b m (nx cols) ])) c) x ≡ bitXor (comb cols x) c
-      go false ih = pass-moves cols c x (k .small x)
-      go true ih =
-          ap (λ (l : List Pass). performed l x) (complemented-more (columns n (after e s)) (map (columns n) (rounds g n b m (nx cols))) c (rounds-some g (nx cols)))
+      all : List (List ℕ) → ℕ
+      all l = performed (complemented (map (columns n) l) c) x
+
+      go : (q : Bool) → busy m cols ≡ q → ((y : ℕ) → y < 2 ^ n → performed (complemented (map (columns n) (rounds g n b m (nx cols))) c) y ≡ bitXor (comb (nx cols) y) c) → all (rounds (suc g) n b m cols) ≡ bitXor (comb cols x) c
+      go false q ih = ap all (rounds-stop (suc g) n b m cols q) ∙ pass-moves cols c x (k .small x)
+      go true q ih =
+          ap all (rounds-go g n b m cols q)
+          ∙ ap (λ (l : List Pass). performed l x) (complemented-more (columns n (after e s)) (map (columns n) (rounds g n b m (nx cols))) c (rounds-some g (nx cols)))
           ∙ ap (performed (complemented (map (columns n) (rounds g n b m (nx cols))) c)) (pass-moves (after e s) 0 x y-lt ∙ xor-zero-r y)
           ∙ ih y y-lt ∙ ap (λ (u : ℕ). bitXor u c) y-is
 

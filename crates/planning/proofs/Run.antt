@@ -150,6 +150,7 @@ module _ (n b m : ℕ) (hb : b < m) (hm : m ≤ n) (rows : List ℕ) (hr : lengt
       ))
       (λ x y hx hy e. spread-inj (marked (phi m cols)) m x y hx hy (marks-one (phi m cols) m (spread (marked (phi m cols)) m x) (spread (marked (phi m cols)) m y) (spread-lt (marked (phi m cols)) m x) (spread-lt (marked (phi m cols)) m y) (spread-only (marked (phi m cols)) m x) (spread-only (marked (phi m cols)) m y) e)))
 
+  -- so the passes number at most half of n, and one more
   pub plan-half : 2 * length (passMatrices n b m rows) ≤ n + 2
   plan-half = omega (arith, plan-length, up-le (rank (phi m cols) m) (m - b) (omega arith), rank-low, rank-le (phi m cols) m)
 

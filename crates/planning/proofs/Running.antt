@@ -73,16 +73,12 @@ module _ (plan : Plan) (e : sound plan ≡ true) where
   sound-allowed = limits→allowed (plan .geometry) (checked .limits)
 
   pub sound-some : 1 ≤ plan .count
-  sound-some = leb-true 1 (plan .count) (and-l (leb 1 (plan .count)) (leb (plan .count) PASSES) both)
-    where
-      both : leb 1 (plan .count) && leb (plan .count) PASSES ≡ true
-      both = unfold countInLimits in checked .count
+  unfolding countInLimits
+  sound-some = leb-true 1 (plan .count) (and-l (leb 1 (plan .count)) _ (checked .count))
 
   pub sound-few : plan .count ≤ PASSES
-  sound-few = leb-true (plan .count) PASSES (and-r (leb 1 (plan .count)) (leb (plan .count) PASSES) both)
-    where
-      both : leb 1 (plan .count) && leb (plan .count) PASSES ≡ true
-      both = unfold countInLimits in checked .count
+  unfolding countInLimits
+  sound-few = leb-true (plan .count) PASSES (and-r (leb 1 (plan .count)) (leb (plan .count) PASSES) (checked .count))
 
   pub sound-row : (p i : ℕ) → p < plan .count → i < plan .geometry .n → getD (plan .rows) (p * ROWS + i) 0 < records (plan .geometry)
   sound-row p i hp hi =
@@ -146,7 +142,7 @@ sound→runs plan long e = record {
 module _ (plan : Plan) (next : ℕ) where
   pub can-run→sound : canRun plan next ≡ true → sound plan ≡ true
   unfolding canRun
-  can-run→sound = and-l (sound plan) (leb next (total (routeOf plan)))
+  can-run→sound e = and-l (sound plan) _ e
 
   pub can-run→next : canRun plan next ≡ true → next ≤ total (routeOf plan)
   unfolding canRun

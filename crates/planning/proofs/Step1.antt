@@ -235,7 +235,7 @@ module _ (n m : ℕ) (hm : m ≤ n) (cols : List ℕ) where
       (ap (λ (k : ℕ). bitXor k (comb (phi m cols) s)) (r .2 ∙ xor-comm (comb (phi m cols) s) (getD (phi m cols) j 0)) ∙ xor-cancel-r (getD (phi m cols) j 0) (comb (phi m cols) s)))
       ∙ not-true (reached n m cols j) e)
 
-  -- a sum of W columns that is a sum of δ columns is the noEntries one
+  -- a sum of W columns that is a sum of δ columns is the empty one
   pub w-indep : (z : ℕ) → z < 2 ^ m → Only (λ i. not (reached n m cols i)) m z → InDelta (comb (phi m cols) z) → z ≡ 0
   w-indep z h o r = indep (phi m cols) (λ i. not (reached n m cols i)) InDelta in-none in-xor m w-off w-on m z (le-refl m) h o r
 

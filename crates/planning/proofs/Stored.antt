@@ -17,7 +17,7 @@ use Rattle.planning.specs.declared.Plan.{Plan}
 module _ (room width : ℕ) (ps : List Pass) where
   pub stored-length : length (storedRows room width ps) ≡ room * width
   unfolding storedRows
-  stored-length = listed-length (λ q. getD (passIn ps (q / width) .rows) (q % width) 0) (room * width) 0
+  stored-length = listed-length _ (room * width) 0
 
   pub stored-place : (q : ℕ) → q < room * width → getD (storedRows room width ps) q 0 ≡ getD (passIn ps (q / width) .rows) (q % width) 0
   unfolding storedRows

@@ -9,9 +9,6 @@ use Rattle.algebra.proofs.Built.{built-count, built-next}
 use Rattle.matrix.specs.Echelon.{echelonOf}
 use Rattle.matrix.proofs.echelon.eliminate.Statement.{statement}
 use Rattle.matrix.proofs.echelon.eliminate.Tie as tie
-use Rattle.matrix.proofs.echelon.eliminate.Reads as reads
-use Rattle.matrix.proofs.echelon.eliminate.Lts as lts
-use Rattle.matrix.proofs.echelon.grow.Reads as grow-reads
 
 abbrev Inv-loop : tie.InvT-loop
 Inv-loop cols k e₀ j₀ e j = (j ≤ k) × (echelonOf e ≡ built ROWS cols j)

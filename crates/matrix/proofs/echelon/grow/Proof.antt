@@ -4,11 +4,6 @@ use Rattle.algebra.proofs.Loops.{grown-entry, grown-skip}
 use Rattle.matrix.specs.Echelon.{echelonOf}
 use Rattle.matrix.proofs.echelon.grow.Statement.{statement}
 use Rattle.matrix.proofs.echelon.grow.Tie as tie
-use Rattle.matrix.proofs.echelon.grow.Reads as reads
-use Rattle.matrix.proofs.echelon.grow.Lts as lts
-use Rattle.matrix.proofs.echelon.lowest.Reads as lowest-reads
-use Rattle.matrix.proofs.echelon.reduce.Reads as reduce-reads
-use Rattle.matrix.proofs.vector.power.Reads as power-reads
 
 power-requires : tie.Need-power-requires
 power-requires c κs = search needs

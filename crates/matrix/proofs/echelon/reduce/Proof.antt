@@ -8,10 +8,6 @@ use Rattle.algebra.specs.Elimination.{rest, used}
 use Rattle.algebra.proofs.Loops.{rest-next, rest-start, used-next, used-start}
 use Rattle.matrix.proofs.echelon.reduce.Statement.{statement}
 use Rattle.matrix.proofs.echelon.reduce.Tie as tie
-use Rattle.matrix.proofs.echelon.reduce.Reads as reads
-use Rattle.matrix.proofs.echelon.reduce.Lts as lts
-use Rattle.matrix.proofs.vector.bit_of.Reads as bit-of-reads
-use Rattle.matrix.proofs.vector.times.Reads as times-reads
 
 abbrev Inv-loop : tie.InvT-loop
 Inv-loop v t vectors pivots tags count u₀ s₀ i₀ u s i = (i ≤ count) × (u ≡ rest vectors pivots i v) × (s ≡ bitXor t (used vectors pivots tags i v))

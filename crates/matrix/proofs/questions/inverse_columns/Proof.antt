@@ -15,12 +15,6 @@ use Rattle.algebra.proofs.Questions.{inverse-built}
 use Rattle.matrix.proofs.Filled.{filled, filled-all, filled-next}
 use Rattle.matrix.proofs.questions.inverse_columns.Statement.{statement}
 use Rattle.matrix.proofs.questions.inverse_columns.Tie as tie
-use Rattle.matrix.proofs.questions.inverse_columns.Reads as reads
-use Rattle.matrix.proofs.questions.inverse_columns.Lts as lts
-use Rattle.matrix.proofs.echelon.eliminate.Reads as eliminate-reads
-use Rattle.matrix.proofs.echelon.reduce.Reads as reduce-reads
-use Rattle.matrix.proofs.rows.columns.Reads as columns-reads
-use Rattle.matrix.proofs.vector.power.Reads as power-reads
 
 abbrev Inv-loop : tie.InvT-loop
 Inv-loop rows n e out₀ j₀ out j = (j ≤ n) × (out ≡ filled ROWS (columns n (inverse n (take n rows))) j)
@@ -71,7 +65,7 @@ loop-again c =
     let l = c .before .before .before .loop in
     let long = columns-length n (inverse n rows) in
     let column =
-        inverse-built ROWS n rows (k .result) (s .pre .0) (omega arith) (simp length-take (omega arith)) (cc (sub-zero n)) (echelonOf (e .result)) (e .ensures) (s .pre .1) (l .j) (search needs) in
+    inverse-built ROWS n rows (k .result) (s .pre .0) (omega arith) (simp length-take (omega arith)) (cc (sub-zero n)) (echelonOf (e .result)) (e .ensures) (s .pre .1) (l .j) (search needs) in
     (search needs, filled-next ROWS (columns n (inverse n rows)) (omega arith) (l .j) (c .reduce .result .tag) (l .out) (omega arith) (l .inv .1) (cc))
 
 returns : tie.Need-returns Inv-loop μ-loop

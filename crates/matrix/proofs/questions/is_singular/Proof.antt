@@ -8,10 +8,6 @@ use Rattle.matrix.specs.Echelon.{echelonOf}
 use Rattle.algebra.proofs.Questions.{singular-built}
 use Rattle.matrix.proofs.questions.is_singular.Statement.{statement}
 use Rattle.matrix.proofs.questions.is_singular.Tie as tie
-use Rattle.matrix.proofs.questions.is_singular.Reads as reads
-use Rattle.matrix.proofs.questions.is_singular.Lts as lts
-use Rattle.matrix.proofs.echelon.eliminate.Reads as eliminate-reads
-use Rattle.matrix.proofs.rows.columns.Reads as columns-reads
 
 columns-requires : tie.Need-columns-requires
 columns-requires c κs = search needs

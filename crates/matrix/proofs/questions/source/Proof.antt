@@ -10,11 +10,6 @@ use Rattle.algebra.proofs.Built.{built-count}
 use Rattle.algebra.proofs.Questions.{source-built}
 use Rattle.matrix.proofs.questions.source.Statement.{statement}
 use Rattle.matrix.proofs.questions.source.Tie as tie
-use Rattle.matrix.proofs.questions.source.Reads as reads
-use Rattle.matrix.proofs.questions.source.Lts as lts
-use Rattle.matrix.proofs.echelon.eliminate.Reads as eliminate-reads
-use Rattle.matrix.proofs.echelon.reduce.Reads as reduce-reads
-use Rattle.matrix.proofs.rows.columns.Reads as columns-reads
 
 columns-requires : tie.Need-columns-requires
 columns-requires c κs = search needs

@@ -14,13 +14,6 @@ use Rattle.algebra.proofs.Questions.{spills-no, spills-yes, tag-lt, tag-zero, t
 use Rattle.algebra.proofs.Spill.{Through, through-zero}
 use Rattle.matrix.proofs.questions.spills.Statement.{statement}
 use Rattle.matrix.proofs.questions.spills.Tie as tie
-use Rattle.matrix.proofs.questions.spills.Reads as reads
-use Rattle.matrix.proofs.questions.spills.Lts as lts
-use Rattle.matrix.proofs.echelon.grow.Reads as grow-reads
-use Rattle.matrix.proofs.echelon.reduce.Reads as reduce-reads
-use Rattle.matrix.proofs.rows.apply_part.Reads as apply-part-reads
-use Rattle.matrix.proofs.rows.columns.Reads as columns-reads
-use Rattle.matrix.proofs.vector.power.Reads as power-reads
 
 abbrev Inv-loop : tie.InvT-loop
 Inv-loop rows n b m cols e₀ j₀ e j =

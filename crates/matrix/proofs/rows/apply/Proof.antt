@@ -7,9 +7,6 @@ use borrow.Author.Needs.{needs}
 use Rattle.algebra.specs.Matrix.{apply}
 use Rattle.matrix.proofs.rows.apply.Statement.{statement}
 use Rattle.matrix.proofs.rows.apply.Tie as tie
-use Rattle.matrix.proofs.rows.apply.Reads as reads
-use Rattle.matrix.proofs.rows.apply.Lts as lts
-use Rattle.matrix.proofs.rows.apply_part.Reads as apply-part-reads
 
 apply-part-requires : tie.Need-apply-part-requires
 apply-part-requires c κs = search needs

@@ -11,9 +11,6 @@ use Rattle.algebra.proofs.Digits.{parity-lt}
 use Rattle.algebra.proofs.Loops.{apply-start, apply-tight, part-back}
 use Rattle.matrix.proofs.rows.apply_part.Statement.{statement}
 use Rattle.matrix.proofs.rows.apply_part.Tie as tie
-use Rattle.matrix.proofs.rows.apply_part.Reads as reads
-use Rattle.matrix.proofs.rows.apply_part.Lts as lts
-use Rattle.matrix.proofs.vector.parity.Reads as parity-reads
 
 abbrev Inv-loop : tie.InvT-loop
 Inv-loop rows from to x r₀ i₀ r i = (i ≤ to - from) × (r ≡ apply (drop i (take (to - from) (drop from rows))) x)

@@ -10,10 +10,6 @@ use Rattle.algebra.specs.Matrix.{columns}
 use Rattle.algebra.proofs.Columns.{columns-at, columns-length}
 use Rattle.matrix.proofs.rows.columns.Statement.{statement}
 use Rattle.matrix.proofs.rows.columns.Tie as tie
-use Rattle.matrix.proofs.rows.columns.Reads as reads
-use Rattle.matrix.proofs.rows.columns.Lts as lts
-use Rattle.matrix.proofs.rows.apply_part.Reads as apply-part-reads
-use Rattle.matrix.proofs.vector.power.Reads as power-reads
 
 abbrev Inv-loop : tie.InvT-loop
 Inv-loop rows from to n cols₀ j₀ cols j = (j ≤ n) × (cols ≡ filled ROWS (columns n (take (to - from) (drop from rows))) j)

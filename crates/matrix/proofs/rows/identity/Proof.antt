@@ -2,7 +2,6 @@
 use mathlib.Core.Path.{_≡_, refl}
 use Prim.Native.Nat.{_-_, _≤_}
 use native.Mathlib.Omega.{arith}
-use lib.ListN.{take}
 use borrow.Author.Needs.{needs}
 use Rattle.bank.specs.Limits.{ROWS}
 use Rattle.matrix.proofs.Filled.{filled, filled-all, filled-next}
@@ -10,9 +9,6 @@ use Rattle.algebra.specs.Matrix.{identity}
 use Rattle.algebra.proofs.Columns.{identity-at, identity-length}
 use Rattle.matrix.proofs.rows.identity.Statement.{statement}
 use Rattle.matrix.proofs.rows.identity.Tie as tie
-use Rattle.matrix.proofs.rows.identity.Reads as reads
-use Rattle.matrix.proofs.rows.identity.Lts as lts
-use Rattle.matrix.proofs.vector.power.Reads as power-reads
 
 abbrev Inv-loop : tie.InvT-loop
 Inv-loop n rows₀ i₀ rows i = (i ≤ n) × (rows ≡ filled ROWS (identity n) i)

@@ -9,9 +9,6 @@ use Rattle.matrix.proofs.Filled.{filled, filled-all, filled-next, produ
 use Rattle.algebra.specs.Matrix.{product}
 use Rattle.matrix.proofs.rows.sums.Statement.{statement}
 use Rattle.matrix.proofs.rows.sums.Tie as tie
-use Rattle.matrix.proofs.rows.sums.Reads as reads
-use Rattle.matrix.proofs.rows.sums.Lts as lts
-use Rattle.matrix.proofs.vector.sum.Reads as sum-reads
 
 abbrev Inv-loop : tie.InvT-loop
 Inv-loop vectors n picks rows₀ i₀ rows i = (i ≤ n) × (rows ≡ filled ROWS (product (take n picks) (take n vectors)) i)

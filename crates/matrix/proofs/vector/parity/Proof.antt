@@ -1,6 +1,5 @@
 -- `matrix::vector::parity` meets its contract: it is the definition. Assumes nothing.
 use mathlib.Core.Path.{refl}
-use lib.Count.{ones}
 use Rattle.algebra.specs.Vector.{parity}
 use Rattle.matrix.proofs.vector.parity.Statement.{statement}
 use Rattle.matrix.proofs.vector.parity.Tie as tie

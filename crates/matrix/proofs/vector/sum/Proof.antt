@@ -8,9 +8,6 @@ use Rattle.algebra.specs.Vector.{comb}
 use Rattle.algebra.proofs.Loops.{comb-end, comb-turn}
 use Rattle.matrix.proofs.vector.sum.Statement.{statement}
 use Rattle.matrix.proofs.vector.sum.Tie as tie
-use Rattle.matrix.proofs.vector.sum.Reads as reads
-use Rattle.matrix.proofs.vector.sum.Lts as lts
-use Rattle.matrix.proofs.vector.times.Reads as times-reads
 
 abbrev Inv-loop : tie.InvT-loop
 Inv-loop vectors n s total₀ left₀ j₀ total left j = (j ≤ n) × (bitXor total (comb (drop j (take n vectors)) left) ≡ comb (take n vectors) s)
