@@ -101,7 +101,7 @@ module _ (room n : ℕ) (rows cols : List ℕ) (hn : n ≤ room) (hr : room ≤ 
         (rest→marked (columns n rows) j (e .vectors) (e .pivots) (e .tags) (e .count) (so-far .basis) (λ z. f (left-is ∙ z))) h)
 
 -- ---- the first n rows: the middle ones and the lower ones
-drop-take : (m n : ℕ) (l : List ℕ) → drop m (take n l) ≡ take (n - m) (drop m l)
+pub drop-take : (m n : ℕ) (l : List ℕ) → drop m (take n l) ≡ take (n - m) (drop m l)
 drop-take zero n l = ap (λ (k : ℕ). take k l) (sym (sub-zero n))
 drop-take (suc m) zero l = let e : 0 ≡ 0 - suc m = omega arith in ap (λ (k : ℕ). take k (drop (suc m) l)) e
 drop-take (suc m) (suc n) [] = sym (take-nil (suc n - suc m))

@@ -6,10 +6,10 @@ ghost use lib.ListN.{take, drop, replicate};
 ghost use Rattle.bank.specs.Limits.{ROWS};
 use bank::ROWS;
 
-// The lower part of columns from..to: each without its low m bits. The places after them hold zero.
-pub fn lower(cols: &[u32; ROWS], from: usize, to: usize, m: usize) -> [u32; ROWS]
+// The lower part of columns from..to, by value.
+fn lowered(cols: [u32; ROWS], from: usize, to: usize, m: usize) -> [u32; ROWS]
     requires { ⌜ (from ≤ to) × (to ≤ ROWS) × (m < 32) ⌝ }
-    ensures { λ r. ⌜ r ≡ map (λ v. v / 2 ^ m) (take (to - from) (drop from (now (cols .entry)))) ++ replicate (ROWS - (to - from)) 0 ⌝ }
+    ensures { λ r. ⌜ r ≡ map (λ v. v / 2 ^ m) (take (to - from) (drop from cols)) ++ replicate (ROWS - (to - from)) 0 ⌝ }
 {
     let mut part = [0u32; ROWS];
     let mut i = 0;
@@ -18,4 +18,13 @@ pub fn lower(cols: &[u32; ROWS], from: usize, to: usize, m: usize) -> [u32; ROWS
         i += 1;
     }
     part
+}
+
+// The lower part of columns from..to: each without its low m bits. The places after them hold zero.
+pub fn lower(cols: &[u32; ROWS], from: usize, to: usize, m: usize) -> [u32; ROWS]
+    requires { ⌜ (from ≤ to) × (to ≤ ROWS) × (m < 32) ⌝ }
+    ensures { λ r. ⌜ r ≡ map (λ v. v / 2 ^ m) (take (to - from) (drop from (now (cols .entry)))) ++ replicate (ROWS - (to - from)) 0 ⌝ }
+{
+    let whole = *cols;
+    lowered(whole, from, to, m)
 }

@@ -1,0 +1,134 @@
+-- Which columns has a walk over the columns exchanged so far? Assumes nothing.
+use mathlib.Core.Path.{_∙_, _≡_, ap, ap₂, refl, sym}
+use mathlib.Core.Bool.{Bool, false, not, true}
+use mathlib.Core.List.{List, [], _++_, _∷_, append-nil}
+use mathlib.Core.Logic.{⊎-elim}
+use Prim.Native.Nat.{_+_, _-_, _<_, _^_, _≤_, suc, zero, ℕ}
+use native.Mathlib.Nat.{add-zero, le-of-suc-le-suc, not-suc-le-zero, zero-add}
+use native.Mathlib.Numerals.{add-one}
+use native.Mathlib.Omega.{arith}
+use lib.Dec.{eqb}
+use lib.ListN.{length, replicate, set}
+use lib.Seq.{set-append-left}
+use borrow.Author.Tests.{eq-eqb, ne-eqb}
+use Rattle.algebra.specs.Matrix.{identity}
+use Rattle.algebra.specs.Search.{listed, which}
+use Rattle.planning.specs.Columns.{placing}
+use Rattle.planning.specs.Making.{partner}
+use Rattle.planning.proofs.Acts.{All, all-mono, listed-length, listed-units, which-all}
+use Rattle.planning.proofs.Dimension.{which-none}
+use Rattle.planning.proofs.Snoc.{one-place, partner-snoc, which-snoc}
+
+-- ---- lists made place by place
+pub listed-same : (f g : ℕ → ℕ) (n k : ℕ) → ((j : ℕ) → k ≤ j → j < k + n → f j ≡ g j) → listed f n k ≡ listed g n k
+unfolding listed
+listed-same f g zero k h = refl
+listed-same f g (suc n) k h = ap₂ (λ (x : ℕ) (l : List ℕ). x ∷ l) (h k (omega arith) (omega arith)) (listed-same f g n (suc k) (λ j a b. h j (omega arith) (omega arith)))
+
+-- one place stored
+pub listed-set : (f g : ℕ → ℕ) (n k x v : ℕ) → x < n → v ≡ g (k + x) → ((j : ℕ) → k ≤ j → j < k + n → (j ≡ k + x → ⊥) → f j ≡ g j) → set (listed f n k) x v ≡ listed g n k
+unfolding listed
+listed-set f g zero k x v l e h = absurd (not-suc-le-zero l)
+listed-set f g (suc n) k zero v l e h =
+    ap₂ (λ (x : ℕ) (l : List ℕ). x ∷ l) (e ∙ ap g (add-zero k)) (listed-same f g n (suc k) (λ j a b. h j (omega arith) (omega arith) (λ q. omega arith)))
+listed-set f g (suc n) k (suc x) v l e h =
+    let at : k + suc x ≡ suc k + x = omega arith in
+    ap₂ (λ (x : ℕ) (l : List ℕ). x ∷ l) (h k (omega arith) (omega arith) (λ q. omega arith))
+    (listed-set f g n (suc k) x v (le-of-suc-le-suc l) (e ∙ ap g at) (λ j a b c. h j (omega arith) (omega arith) (λ q. c (q ∙ at))))
+
+-- .. in an array with room for more
+pub room-set : (f g : ℕ → ℕ) (n x v : ℕ) (r : List ℕ) → x < n → v ≡ g x → ((j : ℕ) → j < n → (j ≡ x → ⊥) → f j ≡ g j) → set (listed f n 0 ++ r) x v ≡ listed g n 0 ++ r
+room-set f g n x v r l e h =
+    set-append-left (listed f n 0) r x v (omega (arith, listed-length f n 0))
+    ∙ ap (λ (t : List ℕ). t ++ r) (listed-set f g n 0 x v l (e ∙ ap g (sym (zero-add x))) (λ j a b c. h j (omega arith) (λ q. c (q ∙ sym (zero-add x)))))
+
+-- ---- places in two parts
+pub which-append : (p : ℕ → Bool) (a c j : ℕ) → which p (a + c) j ≡ which p a j ++ which p c (j + a)
+unfolding which
+which-append p zero c j = ap₂ (λ (x y : ℕ). which p x y) (zero-add c) (sym (add-zero j))
+which-append p (suc a) c j =
+    ap (λ (x : ℕ). which p x j) (native.Mathlib.Nat.suc-add a c) ∙ go (p j) (which-append p a c (suc j) ∙ ap (λ (x : ℕ). which p a (suc j) ++ which p c x) (omega arith))
+  where
+    go : (b : Bool) → which p (a + c) (suc j) ≡ which p a (suc j) ++ which p c (j + suc a)
+        → _≡_ {A = List ℕ} (elim b [ true ↦ j ∷ which p (a + c) (suc j) | false ↦ which p (a + c) (suc j) ]) (elim b [ true ↦ j ∷ which p a (suc j) | false ↦ which p a (suc j) ] ++ which p c (j + suc a))
+    go true e = ap (λ (l : List ℕ). j ∷ l) e
+    go false e = e
+
+-- ---- a list that is longer than the other counts no further
+pub partner-left : (xs ys zs : List ℕ) (j : ℕ) → length xs ≡ length ys → partner (xs ++ zs) ys j ≡ partner xs ys j
+unfolding partner
+partner-left [] [] [] j l = refl
+partner-left [] [] (z ∷ zs) j l = refl
+partner-left [] (y ∷ ys) zs j l = absurd (omega (arith, l))
+partner-left (x ∷ xs) [] zs j l = refl
+partner-left (x ∷ xs) (y ∷ ys) zs j l =
+    ap (λ (k : ℕ). elim (eqb j x) [ true ↦ y | false ↦ elim (eqb j y) [ true ↦ x | false ↦ k ] ]) (partner-left xs ys zs j (omega (arith, l)))
+
+pub partner-right : (xs ys zs : List ℕ) (j : ℕ) → length xs ≡ length ys → partner xs (ys ++ zs) j ≡ partner xs ys j
+unfolding partner
+partner-right [] ys zs j l = refl
+partner-right (x ∷ xs) [] zs j l = absurd (omega (arith, l))
+partner-right (x ∷ xs) (y ∷ ys) zs j l =
+    ap (λ (k : ℕ). elim (eqb j x) [ true ↦ y | false ↦ elim (eqb j y) [ true ↦ x | false ↦ k ] ]) (partner-right xs ys zs j (omega (arith, l)))
+
+-- ---- the walk: the places below x that pass p, with as many of those from b on and below y that pass q
+module _ (p q : ℕ → Bool) (b : ℕ) where
+  abbrev pub firsts : ℕ → List ℕ
+  firsts x = which p x 0
+
+  abbrev pub seconds : ℕ → List ℕ
+  seconds y = which q (y - b) b
+
+  pub first-skip : (x : ℕ) → p x ≡ false → firsts (x + 1) ≡ firsts x
+  first-skip x e =
+      ap firsts (add-one x) ∙ which-snoc p x 0 ∙ ap (λ (k : ℕ). which p x 0 ++ one-place (p k) k) (zero-add x) ∙ ap (λ (t : Bool). which p x 0 ++ one-place t x) e ∙ append-nil (which p x 0)
+
+  pub first-more : (x : ℕ) → p x ≡ true → firsts (x + 1) ≡ firsts x ++ x ∷ []
+  first-more x e =
+      ap firsts (add-one x) ∙ which-snoc p x 0 ∙ ap (λ (k : ℕ). which p x 0 ++ one-place (p k) k) (zero-add x) ∙ ap (λ (t : Bool). which p x 0 ++ one-place t x) e
+
+  pub second-skip : (y z : ℕ) → b ≤ y → y ≤ z → ((k : ℕ) → y ≤ k → k < z → q k ≡ false) → seconds z ≡ seconds y
+  second-skip y z l h f =
+      let parts : z - b ≡ (y - b) + (z - y) = omega arith in
+      let from : b + (y - b) ≡ y = omega arith in
+      ap (λ (k : ℕ). which q k b) parts ∙ which-append q (y - b) (z - y) b
+      ∙ ap (λ (t : List ℕ). seconds y ++ t) (ap (which q (z - y)) from ∙ which-none q (z - y) y (λ i u v. f i u (omega arith))) ∙ append-nil (seconds y)
+
+  pub second-more : (z : ℕ) → b ≤ z → q z ≡ true → seconds (z + 1) ≡ seconds z ++ z ∷ []
+  second-more z l e =
+      let parts : z + 1 - b ≡ suc (z - b) = omega arith in
+      let at : b + (z - b) ≡ z = omega arith in
+      ap (λ (k : ℕ). which q k b) parts ∙ which-snoc q (z - b) b ∙ ap (λ (k : ℕ). seconds z ++ one-place (q k) k) at ∙ ap (λ (t : Bool). seconds z ++ one-place t z) e
+
+  -- where the seconds run out
+  pub seconds-out : (m x y j : ℕ) → x ≤ b → b ≤ y → y ≤ m → length (firsts x) ≡ length (seconds y) → ((k : ℕ) → y ≤ k → k < m → q k ≡ false)
+      → partner (firsts x) (seconds y) j ≡ partner (firsts b) (seconds m) j
+  seconds-out m x y j hx hy hm l f =
+      let parts : b ≡ x + (b - x) = omega arith in
+      sym (ap₂ (λ (u v : List ℕ). partner u v j) (ap firsts parts ∙ which-append p x (b - x) 0) (second-skip y m hy hm f) ∙ partner-left (firsts x) (seconds y) (which p (b - x) (0 + x)) j l)
+
+  -- where the firsts do
+  pub firsts-out : (m x y j : ℕ) → x ≡ b → b ≤ y → y ≤ m → length (firsts x) ≡ length (seconds y) → partner (firsts x) (seconds y) j ≡ partner (firsts b) (seconds m) j
+  firsts-out m x y j hx hy hm l =
+      let parts : m - b ≡ (y - b) + (m - y) = omega arith in
+      sym (ap₂ (λ (u v : List ℕ). partner u v j) (ap firsts (sym hx)) (ap (λ (k : ℕ). which q k b) parts ∙ which-append q (y - b) (m - y) b)
+      ∙ partner-right (firsts x) (seconds y) (which q (m - y) (b + (y - b))) j l)
+
+  -- S so far, in an array with room for more
+  module _ (n room : ℕ) where
+    pub record Exchanged (x y : ℕ) (s : List ℕ) : Type 0 where
+      pub even : length (firsts x) ≡ length (seconds y)
+      pub holds : s ≡ placing (partner (firsts x) (seconds y)) n ++ replicate room 0
+
+    pub exchanged-none : (s : List ℕ) → s ≡ identity n ++ replicate room 0 → Exchanged 0 b s
+    unfolding which placing identity partner
+    exchanged-none s e =
+        let none : b - b ≡ 0 = omega arith in
+        let empty : seconds b ≡ [] = ap (λ (k : ℕ). which q k b) none in
+        record { even = ap length (sym empty); holds = e ∙ ap (λ (l : List ℕ). l ++ replicate room 0) (sym (listed-units n 0)) }
+
+    pub exchanged-skip : (x y : ℕ) (s : List ℕ) → p x ≡ false → Exchanged x y s → Exchanged (x + 1) y s
+    exchanged-skip x y s e i = record {
+      even = ap length (first-skip x e) ∙ i .even;
+      holds = i .holds ∙ ap (λ (l : List ℕ). placing (partner l (seconds y)) n ++ replicate room 0) (sym (first-skip x e));
+    }
