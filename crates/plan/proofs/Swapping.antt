@@ -1,5 +1,5 @@
 -- Which columns has a walk over the columns exchanged so far? Assumes nothing.
-use mathlib.Core.Path.{_∙_, _≡_, ap, ap₂, refl, sym}
+use mathlib.Core.Path.{_∙_, _≡_, ap, ap₂, refl, subst, sym}
 use mathlib.Core.Bool.{Bool, false, not, true}
 use mathlib.Core.List.{List, [], _++_, _∷_, append-nil}
 use mathlib.Core.Logic.{⊎-elim}
@@ -8,16 +8,17 @@ use native.Mathlib.Nat.{add-zero, le-of-suc-le-suc, not-suc-le-zero, zero-add}
 use native.Mathlib.Numerals.{add-one}
 use native.Mathlib.Omega.{arith}
 use lib.Dec.{eqb}
-use lib.ListN.{length, replicate, set}
+use lib.ListN.{length, length-append, replicate, set, take}
 use lib.Seq.{set-append-left}
 use borrow.Author.Tests.{eq-eqb, ne-eqb}
 use Rattle.algebra.specs.Matrix.{identity}
 use Rattle.algebra.specs.Search.{listed, which}
-use Rattle.planning.specs.Columns.{placing}
-use Rattle.planning.specs.Making.{partner}
+use Rattle.planning.specs.Columns.{phi, placing, zeroColumn}
+use Rattle.planning.specs.Making.{partner, swaps}
 use Rattle.planning.proofs.Acts.{All, all-mono, listed-length, listed-units, which-all}
 use Rattle.planning.proofs.Dimension.{which-none}
 use Rattle.planning.proofs.Snoc.{one-place, partner-snoc, which-snoc}
+use Rattle.plan.proofs.Places.{phi-take}
 
 -- ---- lists made place by place
 pub listed-same : (f g : ℕ → ℕ) (n k : ℕ) → ((j : ℕ) → k ≤ j → j < k + n → f j ≡ g j) → listed f n k ≡ listed g n k
@@ -127,8 +128,75 @@ module _ (p q : ℕ → Bool) (b : ℕ) where
         let empty : seconds b ≡ [] = ap (λ (k : ℕ). which q k b) none in
         record { even = ap length (sym empty); holds = e ∙ ap (λ (l : List ℕ). l ++ replicate room 0) (sym (listed-units n 0)) }
 
+    pub exchanged-same : (x y y′ : ℕ) (s s′ : List ℕ) → y′ ≡ y → s′ ≡ s → Exchanged x y s → Exchanged x y′ s′
+    exchanged-same x y y′ s s′ ey es i = subst (λ (l : List ℕ). Exchanged x y′ l) (sym es) (subst (λ (k : ℕ). Exchanged x k s) (sym ey) i)
+
     pub exchanged-skip : (x y : ℕ) (s : List ℕ) → p x ≡ false → Exchanged x y s → Exchanged (x + 1) y s
     exchanged-skip x y s e i = record {
       even = ap length (first-skip x e) ∙ i .even;
       holds = i .holds ∙ ap (λ (l : List ℕ). placing (partner l (seconds y)) n ++ replicate room 0) (sym (first-skip x e));
     }
+
+    -- the next two: x, and z after y
+    module _ (x y z : ℕ) (hx : x < b) (hy : b ≤ y) (hz : y ≤ z) (ex : p x ≡ true) (ez : q z ≡ true) (between : (k : ℕ) → y ≤ k → k < z → q k ≡ false) where
+      next-firsts : firsts (x + 1) ≡ firsts x ++ x ∷ []
+      next-firsts = first-more x ex
+
+      next-seconds : seconds (z + 1) ≡ seconds y ++ z ∷ []
+      next-seconds = second-more z (omega arith) ez ∙ ap (λ (l : List ℕ). l ++ z ∷ []) (second-skip y z hy hz between)
+
+      next-partner : (j : ℕ) → length (firsts x) ≡ length (seconds y)
+          → partner (firsts x ++ x ∷ []) (seconds y ++ z ∷ []) j ≡ elim (eqb j x) [ true ↦ z | false ↦ elim (eqb j z) [ true ↦ x | false ↦ partner (firsts x) (seconds y) j ] ]
+      next-partner j l =
+          let low = which-all p x 0 in
+          let high = which-all q (y - b) b in
+          partner-snoc (firsts x) (seconds y) x z j l
+          (all-mono (λ w. (0 ≤ w) × (w < 0 + x)) (λ w. x ≡ w → ⊥) (λ w h e. omega arith) (firsts x) low)
+          (all-mono (λ w. (b ≤ w) × (w < b + (y - b))) (λ w. x ≡ w → ⊥) (λ w h e. omega arith) (seconds y) high)
+          (all-mono (λ w. (0 ≤ w) × (w < 0 + x)) (λ w. z ≡ w → ⊥) (λ w h e. omega arith) (firsts x) low)
+          (all-mono (λ w. (b ≤ w) × (w < b + (y - b))) (λ w. z ≡ w → ⊥) (λ w h e. omega arith) (seconds y) high)
+
+      power-first : (t : Bool) (k : ℕ) → elim t [ true ↦ 2 ^ z | false ↦ 2 ^ k ] ≡ 2 ^ (elim t [ true ↦ z | false ↦ k ])
+      power-first true k = refl
+      power-first false k = refl
+
+      pub exchanged-more : (s : List ℕ) (u v : ℕ) → z < n → u ≡ 2 ^ z → v ≡ 2 ^ x → Exchanged x y s → Exchanged (x + 1) (z + 1) (set (set s x u) z v)
+      unfolding placing
+      exchanged-more s u v hn eu ev i =
+          let old : ℕ → ℕ = λ j. 2 ^ partner (firsts x) (seconds y) j in
+          let mid : ℕ → ℕ = λ j. elim (eqb j x) [ true ↦ 2 ^ z | false ↦ 2 ^ partner (firsts x) (seconds y) j ] in
+          let new : ℕ → ℕ = λ j. 2 ^ partner (firsts x ++ x ∷ []) (seconds y ++ z ∷ []) j in
+          let rest : List ℕ = replicate room 0 in
+          let first : set (listed old n 0 ++ rest) x u ≡ listed mid n 0 ++ rest
+          = room-set old mid n x u rest (omega arith) (eu ∙ sym (ap (λ (t : Bool). elim t [ true ↦ 2 ^ z | false ↦ old x ]) (eq-eqb x x refl)))
+          (λ j h w. sym (ap (λ (t : Bool). elim t [ true ↦ 2 ^ z | false ↦ old j ]) (ne-eqb j x w))) in
+          let second : set (listed mid n 0 ++ rest) z v ≡ listed new n 0 ++ rest
+          = room-set mid new n z v rest hn
+          (ev ∙ ap (λ (k : ℕ). 2 ^ k) (sym (next-partner z (i .even) ∙ ap₂ (λ (t r : Bool). elim t [ true ↦ z | false ↦ elim r [ true ↦ x | false ↦ partner (firsts x) (seconds y) z ] ]) (ne-eqb z x (λ w. omega arith)) (eq-eqb z z refl))))
+          (λ j h w. power-first (eqb j x) (partner (firsts x) (seconds y) j)
+          ∙ ap (λ (k : ℕ). 2 ^ k) (sym (next-partner j (i .even) ∙ ap (λ (r : Bool). elim (eqb j x) [ true ↦ z | false ↦ elim r [ true ↦ x | false ↦ partner (firsts x) (seconds y) j ] ]) (ne-eqb j z w)))) in
+          record {
+            even = ap length next-firsts ∙ length-append (firsts x) (x ∷ []) ∙ ap (λ (k : ℕ). k + 1) (i .even) ∙ sym (length-append (seconds y) (z ∷ [])) ∙ sym (ap length next-seconds);
+            holds = ap (λ (l : List ℕ). set (set l x u) z v) (i .holds) ∙ ap (λ (l : List ℕ). set l z v) first ∙ second
+                ∙ ap₂ (λ (f g : List ℕ). listed (λ j. 2 ^ partner f g j) n 0 ++ rest) (sym next-firsts) (sym next-seconds);
+          }
+
+    -- .. and when there are no two more
+    pub exchanged-out : (m x y : ℕ) (s : List ℕ) → x ≤ b → b ≤ y → y ≤ m → ((k : ℕ) → y ≤ k → k < m → q k ≡ false) → Exchanged x y s → s ≡ placing (partner (firsts b) (seconds m)) n ++ replicate room 0
+    unfolding placing
+    exchanged-out m x y s hx hy hm f i =
+        i .holds
+        ∙ ap (λ (l : List ℕ). l ++ replicate room 0) (listed-same (λ j. 2 ^ partner (firsts x) (seconds y) j) (λ j. 2 ^ partner (firsts b) (seconds m) j) n 0 (λ j a c. ap (λ (k : ℕ). 2 ^ k) (seconds-out m x y j hx hy hm (i .even) f)))
+
+    pub exchanged-all : (m x y : ℕ) (s : List ℕ) → x ≡ b → b ≤ y → y ≤ m → Exchanged x y s → s ≡ placing (partner (firsts b) (seconds m)) n ++ replicate room 0
+    unfolding placing
+    exchanged-all m x y s hx hy hm i =
+        i .holds
+        ∙ ap (λ (l : List ℕ). l ++ replicate room 0) (listed-same (λ j. 2 ^ partner (firsts x) (seconds y) j) (λ j. 2 ^ partner (firsts b) (seconds m) j) n 0 (λ j a c. ap (λ (k : ℕ). 2 ^ k) (firsts-out m x y j hx hy hm (i .even))))
+
+-- S, of a matrix of n columns
+pub swaps-are : (n b m : ℕ) (cols : List ℕ) → m ≤ n
+    → placing (partner (which (λ j. not (zeroColumn (phi m cols) j)) b 0) (which (zeroColumn (phi m cols)) (m - b) b)) n ≡ swaps n b m (take n cols)
+unfolding swaps
+swaps-are n b m cols h =
+    sym (ap (λ (l : List ℕ). placing (partner (which (λ j. not (zeroColumn l j)) b 0) (which (zeroColumn l) (m - b) b)) n) (phi-take m n cols h))

@@ -1,3 +1,14 @@
+use mathlib.Core.Bool.{not}
+use mathlib.Core.Path.{_∙_, _≡_, ap, sym}
+use mathlib.Core.List.{List, _++_}
+use mathlib.Core.Logic.{⊎-elim}
+use Prim.Native.Nat.{_+_, _-_, _≤_, ℕ}
+use native.Mathlib.Omega.{arith}
+use lib.ListN.{replicate, set}
+use Rattle.algebra.proofs.Search.{from}
+use Rattle.bank.specs.Limits.{ROWS}
+use Rattle.planning.specs.Columns.{phi, zeroColumn}
+use Rattle.plan.proofs.Swapping.{Exchanged, exchanged-all, exchanged-more, exchanged-none, exchanged-out, exchanged-same, exchanged-skip, swaps-are}
 use borrow.Author.Needs.{needs}
 use Rattle.plan.proofs.rounds.swaps.Statement.{statement}
 use Rattle.plan.proofs.rounds.swaps.Tie as tie
@@ -19,7 +30,10 @@ identity-requires : tie.Need-identity-requires Inv-loop μ-loop
 identity-requires c κs = search needs
 
 loop-holds : tie.Need-loop-holds Inv-loop μ-loop
-loop-holds c = search needs
+loop-holds c =
+    let a = c .before .args in
+    let zero = zeroColumn (phi (a .m) (a .cols .now)) in
+    (search needs, search needs, search needs, exchanged-none (λ j. not (zero j)) zero (a .b) (a .n) (ROWS - a .n) (c .identity .result) (c .identity .ensures))
 
 is-zero-requires : tie.Need-is-zero-requires Inv-loop μ-loop
 is-zero-requires c κs = search needs
@@ -28,7 +42,13 @@ next-zero-requires : tie.Need-next-zero-requires Inv-loop μ-loop
 next-zero-requires c κs = search needs
 
 returns : tie.Need-returns Inv-loop μ-loop
-returns c = search needs
+returns c =
+    let a = c .before .before .before .before .before .before .before .args in
+    let l = c .before .before .before .before .before .loop in
+    let zero = zeroColumn (phi (a .m) (a .cols .now)) in
+    exchanged-out (λ j. not (zero j)) zero (a .b) (a .n) (ROWS - a .n) (a .m) (l .x) (l .y) (l .s) (search needs) (search needs) (search needs)
+    (λ k u v. from zero (a .m - l .y) (l .y) .before k u (omega (arith, c .before .next-zero .ensures))) (l .inv .3)
+    ∙ ap (λ (t : List ℕ). t ++ replicate (ROWS - a .n) 0) (swaps-are (a .n) (a .b) (a .m) (a .cols .now) (omega arith))
 
 cast-power : tie.Need-cast-power Inv-loop μ-loop
 cast-power c = search needs
@@ -64,10 +84,39 @@ loop-less : tie.Need-loop-less Inv-loop μ-loop
 loop-less c = search needs
 
 loop-again : tie.Need-loop-again Inv-loop μ-loop
-loop-again c = search needs
+loop-again c =
+    let a = c .before .before .before .before .before .args in
+    let l = c .before .before .before .loop in
+    let zero = zeroColumn (phi (a .m) (a .cols .now)) in
+    let went = ap not (c .before .is-zero .ensures) in
+    ⊎-elim
+    (λ t.
+    let z = t .1 .result in
+    let found = from zero (a .m - l .y) (l .y) in
+    let e = t .1 .ensures in (
+      search needs,
+      omega (arith, e, found .low),
+      omega (arith, e, found .high),
+      exchanged-same (λ j. not (zero j)) zero (a .b) (a .n) (ROWS - a .n) (l .x + 1) (z + 1) (c .if1 .y) (set (set (l .s) (l .x) (t .3 .result)) z (t .4 .result)) (c .if1 .s) (t .6) (t .5)
+      (exchanged-more (λ j. not (zero j)) zero (a .b) (a .n) (ROWS - a .n) (l .x) (l .y) z (search needs) (search needs) (omega (arith, e, found .low)) (sym went ∙ t .0 .taken)
+      (ap zero e ∙ found .holds (omega arith)) (λ k u v. found .before k u (omega arith)) (l .s) (t .3 .result) (t .4 .result) (omega arith) (t .3 .ensures) (t .4 .ensures) (l .inv .3)),
+    ))
+    (λ t. (
+      search needs,
+      search needs,
+      search needs,
+      exchanged-same (λ j. not (zero j)) zero (a .b) (a .n) (ROWS - a .n) (l .x + 1) (l .y) (c .if1 .y) (l .s) (c .if1 .s) (t .2) (t .1)
+      (exchanged-skip (λ j. not (zero j)) zero (a .b) (a .n) (ROWS - a .n) (l .x) (l .y) (l .s) (sym went ∙ t .0 .left) (l .inv .3)),
+    ))
+    (c .if1 .came)
 
 returns-2 : tie.Need-returns-2 Inv-loop μ-loop
-returns-2 c = search needs
+returns-2 c =
+    let a = c .before .before .before .args in
+    let l = c .before .loop in
+    let zero = zeroColumn (phi (a .m) (a .cols .now)) in
+    exchanged-all (λ j. not (zero j)) zero (a .b) (a .n) (ROWS - a .n) (a .m) (l .x) (l .y) (l .s) (omega arith) (search needs) (search needs) (l .inv .3)
+    ∙ ap (λ (t : List ℕ). t ++ replicate (ROWS - a .n) 0) (swaps-are (a .n) (a .b) (a .m) (a .cols .now) (omega arith))
 
 pub swaps-spec : {M : Type 1} → statement M
 swaps-spec =
