@@ -1,3 +1,4 @@
 pub mod Lower
 pub mod Places
 pub mod Swapping
+pub mod Erasing
