@@ -8,12 +8,11 @@ use native.Mathlib.Nat.{lt-of-lt-of-le, mod-eq-of-lt, zero-mul}
 use native.Mathlib.Omega.{arith}
 use lib.Bits.{bitXor, xor-zero-l, xor-zero-r}
 use lib.Pow.{pow-mono}
-use lib.Dec.{eqb, ltb}
+use lib.Dec.{ltb}
 use lib.ListN.{List·getD-append, drop, getD, length, length-drop, length-map, set, take}
 use borrow.Author.Tests.{eqb-true, le-ltb, lt-ltb}
-use Rattle.algebra.specs.Elimination.{Echelon, built, rest, used}
+use Rattle.algebra.specs.Elimination.{Echelon, built, used}
 use Rattle.algebra.specs.Matrix.{identity}
-use Rattle.algebra.specs.Search.{listed}
 use Rattle.algebra.specs.Vector.{bit, comb, times}
 use Rattle.algebra.proofs.Basis.{rest-linear}
 use Rattle.algebra.proofs.Built.{built-same}

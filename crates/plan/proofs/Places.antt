@@ -2,14 +2,13 @@
 use mathlib.Core.Path.{_∙_, _≡_, ap, sym}
 use mathlib.Core.Bool.{Bool, false, not, true}
 use mathlib.Core.List.{List, map}
-use Prim.Native.Nat.{_+_, _-_, _/_, _<_, _^_, _≤_, suc, zero, ℕ}
+use Prim.Native.Nat.{_+_, _-_, _/_, _<_, _^_, _≤_, suc, ℕ}
 use native.Mathlib.Numerals.{add-one}
 use native.Mathlib.Omega.{arith}
 use lib.Dec.{eqb}
 use lib.ListN.{getD, take}
 use lib.Seq.{take-take}
 use Rattle.algebra.specs.Search.{leastFrom, some}
-use Rattle.algebra.specs.Vector.{comb}
 use Rattle.algebra.proofs.Linear.{comb-one}
 use Rattle.algebra.proofs.Search.{none-intro, some-intro}
 use Rattle.planning.specs.Columns.{phi, zeroColumn}

@@ -2,7 +2,6 @@
 use mathlib.Core.Path.{_∙_, _≡_, ap, ap₂, refl, subst, sym}
 use mathlib.Core.Bool.{Bool, false, not, true}
 use mathlib.Core.List.{List, [], _++_, _∷_, append-nil}
-use mathlib.Core.Logic.{⊎-elim}
 use Prim.Native.Nat.{_+_, _-_, _<_, _^_, _≤_, suc, zero, ℕ}
 use native.Mathlib.Nat.{add-zero, le-of-suc-le-suc, not-suc-le-zero, zero-add}
 use native.Mathlib.Numerals.{add-one}
@@ -15,7 +14,7 @@ use Rattle.algebra.specs.Matrix.{identity}
 use Rattle.algebra.specs.Search.{listed, which}
 use Rattle.planning.specs.Columns.{phi, placing, zeroColumn}
 use Rattle.planning.specs.Making.{partner, swaps}
-use Rattle.planning.proofs.Acts.{All, all-mono, listed-length, listed-units, which-all}
+use Rattle.planning.proofs.Acts.{all-mono, listed-length, listed-units, which-all}
 use Rattle.planning.proofs.Dimension.{which-none}
 use Rattle.planning.proofs.Snoc.{one-place, partner-snoc, which-snoc}
 use Rattle.plan.proofs.Places.{phi-take}

@@ -13,13 +13,6 @@ use Rattle.planning.specs.Columns.{adding}
 use Rattle.plan.proofs.Erasing.{column-erased, delta-take, erased, erased-all, erased-more, erased-none, phi-there}
 use Rattle.plan.proofs.rounds.erases.Statement.{statement}
 use Rattle.plan.proofs.rounds.erases.Tie as tie
-use Rattle.plan.proofs.rounds.erases.Reads as reads
-use Rattle.plan.proofs.rounds.erases.Lts as lts
-use Rattle.matrix.proofs.echelon.eliminate.Reads as eliminate-reads
-use Rattle.matrix.proofs.echelon.reduce.Reads as reduce-reads
-use Rattle.matrix.proofs.rows.identity.Reads as identity-reads
-use Rattle.matrix.proofs.vector.power.Reads as power-reads
-use Rattle.plan.proofs.columns.lower.Reads as lower-reads
 
 abbrev Inv-loop : tie.InvT-loop
 Inv-loop cols n b m entries e₀ j₀ e j =

@@ -10,9 +10,6 @@ use Rattle.planning.specs.Columns.{phi, zeroColumn}
 use Rattle.plan.proofs.Places.{busy-no, busy-yes}
 use Rattle.plan.proofs.rounds.is_busy.Statement.{statement}
 use Rattle.plan.proofs.rounds.is_busy.Tie as tie
-use Rattle.plan.proofs.rounds.is_busy.Reads as reads
-use Rattle.plan.proofs.rounds.is_busy.Lts as lts
-use Rattle.plan.proofs.rounds.is_zero.Reads as is-zero-reads
 
 abbrev Inv-loop : tie.InvT-loop
 Inv-loop cols n m j₀ j = (j ≤ m) × ((k : ℕ) → k < j → not (zeroColumn (phi m cols) k) ≡ false)

@@ -6,8 +6,6 @@ use borrow.Author.Needs.{needs}
 use Rattle.plan.proofs.Places.{zero-column}
 use Rattle.plan.proofs.rounds.is_zero.Statement.{statement}
 use Rattle.plan.proofs.rounds.is_zero.Tie as tie
-use Rattle.plan.proofs.rounds.is_zero.Reads as reads
-use Rattle.plan.proofs.rounds.is_zero.Lts as lts
 
 mul-result : tie.Need-mul-result
 mul-result c = search needs

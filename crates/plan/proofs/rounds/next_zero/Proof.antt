@@ -1,16 +1,12 @@
 -- `plan::rounds::next_zero` meets its contract. The loop's invariant: the search from y on finds what the whole one does. Assumes nothing.
 use mathlib.Core.Path.{_∙_, _≡_, refl, sym}
 use Prim.Native.Nat.{_-_, _≤_}
-use native.Mathlib.Omega.{arith}
 use borrow.Author.Needs.{needs}
 use Rattle.algebra.specs.Search.{leastFrom}
 use Rattle.planning.specs.Columns.{phi, zeroColumn}
 use Rattle.plan.proofs.Places.{found-here, found-later, found-none}
 use Rattle.plan.proofs.rounds.next_zero.Statement.{statement}
 use Rattle.plan.proofs.rounds.next_zero.Tie as tie
-use Rattle.plan.proofs.rounds.next_zero.Reads as reads
-use Rattle.plan.proofs.rounds.next_zero.Lts as lts
-use Rattle.plan.proofs.rounds.is_zero.Reads as is-zero-reads
 
 abbrev Inv-loop : tie.InvT-loop
 Inv-loop cols m from y₀ y = (y ≤ m) × (leastFrom (zeroColumn (phi m cols)) (m - from) from ≡ leastFrom (zeroColumn (phi m cols)) (m - y) y)

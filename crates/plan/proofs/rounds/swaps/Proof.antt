@@ -1,23 +1,19 @@
+-- `plan::rounds::swaps` meets its contract. The loop's invariant: the nonzero columns below x have changed places with as many zero columns of b..y-1.
+-- Assumes nothing.
+use mathlib.Core.Path.{_∙_, ap, sym}
 use mathlib.Core.Bool.{not}
-use mathlib.Core.Path.{_∙_, _≡_, ap, sym}
 use mathlib.Core.List.{List, _++_}
 use mathlib.Core.Logic.{⊎-elim}
 use Prim.Native.Nat.{_+_, _-_, _≤_, ℕ}
 use native.Mathlib.Omega.{arith}
 use lib.ListN.{replicate, set}
-use Rattle.algebra.proofs.Search.{from}
+use borrow.Author.Needs.{needs}
 use Rattle.bank.specs.Limits.{ROWS}
+use Rattle.algebra.proofs.Search.{from}
 use Rattle.planning.specs.Columns.{phi, zeroColumn}
 use Rattle.plan.proofs.Swapping.{Exchanged, exchanged-all, exchanged-more, exchanged-none, exchanged-out, exchanged-same, exchanged-skip, swaps-are}
-use borrow.Author.Needs.{needs}
 use Rattle.plan.proofs.rounds.swaps.Statement.{statement}
 use Rattle.plan.proofs.rounds.swaps.Tie as tie
-use Rattle.plan.proofs.rounds.swaps.Reads as reads
-use Rattle.plan.proofs.rounds.swaps.Lts as lts
-use Rattle.matrix.proofs.rows.identity.Reads as identity-reads
-use Rattle.matrix.proofs.vector.power.Reads as power-reads
-use Rattle.plan.proofs.rounds.is_zero.Reads as is-zero-reads
-use Rattle.plan.proofs.rounds.next_zero.Reads as next-zero-reads
 
 abbrev Inv-loop : tie.InvT-loop
 Inv-loop cols n b m s₀ y₀ x₀ s y x =
@@ -98,15 +94,15 @@ loop-again c =
       omega (arith, e, found .low),
       omega (arith, e, found .high),
       exchanged-same (λ j. not (zero j)) zero (a .b) (a .n) (ROWS - a .n) (l .x + 1) (z + 1) (c .if1 .y) (set (set (l .s) (l .x) (t .3 .result)) z (t .4 .result)) (c .if1 .s) (t .6) (t .5)
-      (exchanged-more (λ j. not (zero j)) zero (a .b) (a .n) (ROWS - a .n) (l .x) (l .y) z (search needs) (search needs) (omega (arith, e, found .low)) (sym went ∙ t .0 .taken)
-      (ap zero e ∙ found .holds (omega arith)) (λ k u v. found .before k u (omega arith)) (l .s) (t .3 .result) (t .4 .result) (omega arith) (t .3 .ensures) (t .4 .ensures) (l .inv .3)),
+          (exchanged-more (λ j. not (zero j)) zero (a .b) (a .n) (ROWS - a .n) (l .x) (l .y) z (search needs) (search needs) (omega (arith, e, found .low)) (sym went ∙ t .0 .taken)
+          (ap zero e ∙ found .holds (omega arith)) (λ k u v. found .before k u (omega arith)) (l .s) (t .3 .result) (t .4 .result) (omega arith) (t .3 .ensures) (t .4 .ensures) (l .inv .3)),
     ))
     (λ t. (
       search needs,
       search needs,
       search needs,
       exchanged-same (λ j. not (zero j)) zero (a .b) (a .n) (ROWS - a .n) (l .x + 1) (l .y) (c .if1 .y) (l .s) (c .if1 .s) (t .2) (t .1)
-      (exchanged-skip (λ j. not (zero j)) zero (a .b) (a .n) (ROWS - a .n) (l .x) (l .y) (l .s) (sym went ∙ t .0 .left) (l .inv .3)),
+          (exchanged-skip (λ j. not (zero j)) zero (a .b) (a .n) (ROWS - a .n) (l .x) (l .y) (l .s) (sym went ∙ t .0 .left) (l .inv .3)),
     ))
     (c .if1 .came)
 
