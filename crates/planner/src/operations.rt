@@ -16,10 +16,10 @@ use crate::marks::marks;
 use bank::ROWS;
 use matrix::echelon::eliminate;
 use matrix::echelon::reduce;
-use matrix::vector::power;
-use matrix::vector::times;
 use matrix::rows::columns;
 use matrix::rows::product;
+use matrix::vector::power;
+use matrix::vector::times;
 
 // The columns of A P and of P.
 pub struct Operated {

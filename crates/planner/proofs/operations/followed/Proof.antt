@@ -52,7 +52,7 @@ loop-again c =
     let place : a .k + l .i + 1 ≡ a .k + (l .i + 1) = omega arith in (
       search needs,
       filled-next ROWS list (omega arith) (a .k + l .i) (getD (a .t3) (l .i) 0) (l .both) (omega arith) (l .inv .1) (sym (followed-at ROWS (a .k) (a .l) (a .first) (a .t3) (omega arith) (omega arith) (l .i) (omega arith)))
-      ∙ ap (filled ROWS list) place,
+          ∙ ap (filled ROWS list) place,
     )
 
 returns : tie.Need-returns Inv-loop μ-loop

@@ -86,7 +86,7 @@ loop-again c =
     (λ i. elem-fits w32 w32 (f .result) (f .ok .0) i (f .ok .1 .1) tt .fits) (f .ensures) (set .ensures) (e .ensures) (l .j) (omega arith) in (
       search needs,
       filled-next ROWS (step2 (a .n) (a .m) (take (a .n) (a .cols .now))) (omega arith) (l .j) (bitXor (c .before .before .power .result) (c .times .result)) (l .out) (omega arith) (l .inv .1)
-      (ap₂ bitXor (c .before .before .power .ensures) (c .times .ensures ∙ ap₂ times (c .before .bare .ensures) (r .ensures .1)) ∙ column),
+          (ap₂ bitXor (c .before .before .power .ensures) (c .times .ensures ∙ ap₂ times (c .before .bare .ensures) (r .ensures .1)) ∙ column),
     )
 
 returns : tie.Need-returns Inv-loop μ-loop
