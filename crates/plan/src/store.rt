@@ -36,11 +36,12 @@ pub fn pass_rows(rows: &[u32; PLACES], p: usize) -> [u32; ROWS]
     requires { ⌜ p < PASSES ⌝ }
     ensures { λ r. ⌜ r ≡ take ROWS (drop (p * ROWS) (now (rows .entry))) ⌝ }
 {
-    let mut out = [0u32; ROWS];
     let base = p * ROWS;
+    let all = &rows[..];
+    let mut out = [0u32; ROWS];
     let mut i = 0;
     while i < ROWS {
-        out[i] = rows[base + i];
+        out[i] = all[base + i];
         i += 1;
     }
     out
