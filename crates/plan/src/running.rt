@@ -1,13 +1,14 @@
 // Can a plan run, whoever made it, and what does it total?
 ghost use mathlib.Core.Path.{_≡_};
-ghost use mathlib.Core.Bool.{not, _&&_, _||_};
+ghost use mathlib.Core.Bool.{true, not, _&&_, _||_};
 ghost use Prim.Native.Nat.{_<_, _≤_, _+_, _*_, _/_, _%_};
 ghost use lib.Dec.{eqb, leb};
 ghost use lib.ListN.{getD, take, drop};
 ghost use Rattle.bank.specs.Limits.{ROWS, PASSES};
 ghost use Rattle.algebra.specs.Search.{some};
 ghost use Rattle.algebra.specs.Matrix.{singular, spills};
-ghost use Rattle.planning.specs.Running.{sound, canRun};
+ghost use Rattle.bank.specs.Geometry.{inLimits};
+ghost use Rattle.planning.specs.Running.{countInLimits, strayRow, strayComplement, spareRow, spareComplement, singularPass, spillingPass, sound, canRun};
 ghost use Rattle.plan.specs.Total.{totalSteps, resultArea};
 use crate::store::pass_rows;
 use bank::PASSES;
@@ -16,14 +17,17 @@ use bank::ROWS;
 use bank::Step;
 use planning::Plan;
 
-// Whether the number of passes is at least one, and no more than there is room for.
-fn count_in_limits(count: u32) -> bool
-    ensures { λ r. ⌜ r ≡ leb 1 count && leb count PASSES ⌝ }
+// Whether the geometry and the number of passes are inside the limits.
+fn size_in_limits(plan: Plan) -> bool
+    ensures { λ r. ⌜ r ≡ inLimits (plan .geometry) && countInLimits plan ⌝ }
 {
-    if count < 1 {
+    if !bank::in_limits(plan.geometry) {
         return false;
     }
-    count <= PASSES as u32
+    if plan.count < 1 {
+        return false;
+    }
+    plan.count <= PASSES as u32
 }
 
 // Whether one of the first n rows of a used pass is size or more.
@@ -131,37 +135,55 @@ fn spilling_passes(rows: &[u32; PLACES], count: usize, n: usize, b: usize, m: us
     false
 }
 
-// Whether the plan is one that can run, leaving the state aside.
-pub fn is_sound(plan: Plan) -> bool
-    ensures { λ r. ⌜ r ≡ sound plan ⌝ }
+// Whether a bit is at n or above in a used row or complement, or a place meant to be zero isn't.
+fn badly_stored(plan: Plan) -> bool
+    requires { ⌜ inLimits (plan .geometry) && countInLimits plan ≡ true ⌝ }
+    ensures { λ r. ⌜ r ≡ strayRow plan || strayComplement plan || spareRow plan || spareComplement plan ⌝ }
 {
-    if !bank::in_limits(plan.geometry) {
-        return false;
-    }
-    if !count_in_limits(plan.count) {
-        return false;
-    }
     let rows = plan.rows;
     let complements = plan.complements;
     let count = plan.count as usize;
     let n = plan.geometry.n as usize;
     let size = bank::power(plan.geometry.n);
     if stray_rows(&rows, count, n, size) {
-        return false;
+        return true;
     }
     if stray_complements(&complements, count, size) {
-        return false;
+        return true;
     }
     if spare_rows(&rows, count, n) {
-        return false;
+        return true;
     }
-    if spare_complements(&complements, count) {
-        return false;
-    }
+    spare_complements(&complements, count)
+}
+
+// Whether a used pass is singular or spills.
+fn badly_made(plan: Plan) -> bool
+    requires { ⌜ inLimits (plan .geometry) && countInLimits plan ≡ true ⌝ }
+    ensures { λ r. ⌜ r ≡ singularPass plan || spillingPass plan ⌝ }
+{
+    let rows = plan.rows;
+    let count = plan.count as usize;
+    let n = plan.geometry.n as usize;
     if singular_passes(&rows, count, n) {
+        return true;
+    }
+    let b = plan.geometry.b as usize;
+    let m = plan.geometry.m as usize;
+    spilling_passes(&rows, count, n, b, m)
+}
+
+// Whether the plan is one that can run, leaving the state aside.
+pub fn is_sound(plan: Plan) -> bool
+    ensures { λ r. ⌜ r ≡ sound plan ⌝ }
+{
+    if !size_in_limits(plan) {
         return false;
     }
-    !spilling_passes(&rows, count, n, plan.geometry.b as usize, plan.geometry.m as usize)
+    if badly_stored(plan) {
+        return false;
+    }
+    !badly_made(plan)
 }
 
 // Whether the plan can run from the state's next step on.
@@ -178,10 +200,7 @@ pub fn can_run(plan: Plan, next: Step) -> bool
 pub fn total_steps(plan: Plan) -> u64
     ensures { λ r. ⌜ r ≡ totalSteps plan ⌝ }
 {
-    if !bank::in_limits(plan.geometry) {
-        return 0;
-    }
-    if !count_in_limits(plan.count) {
+    if !size_in_limits(plan) {
         return 0;
     }
     let size = bank::power(plan.geometry.n);

@@ -1,47 +1,59 @@
+-- `plan::running::singular_passes` meets its contract: a search that passed only regular passes. Assumes nothing.
+use mathlib.Core.Path.{_≡_, sym, ap, _∙_}
+use mathlib.Core.Bool.{false}
+use Prim.Native.Nat.{ℕ, _≤_, _<_, _-_, _+_, _*_}
+use native.Mathlib.Omega.{arith}
+use borrow.Author.Count.{below-more}
+use borrow.Author.Needs.{needs}
+use lib.ListN.{take, drop}
+use Rattle.algebra.specs.Matrix.{singular}
+use Rattle.plan.proofs.Judging.{part-matrix}
+use Rattle.bank.specs.Limits.{ROWS}
+use Rattle.algebra.proofs.Search.{some-intro, none-intro}
 use Rattle.plan.proofs.running.singular_passes.Statement.{statement}
 use Rattle.plan.proofs.running.singular_passes.Tie as tie
-use Rattle.plan.proofs.running.singular_passes.Reads as reads
-use Rattle.plan.proofs.running.singular_passes.Lts as lts
-use Rattle.matrix.proofs.questions.is_singular.Reads as is-singular-reads
-use Rattle.plan.proofs.store.pass_rows.Reads as pass-rows-reads
 
 abbrev Inv-loop : tie.InvT-loop
-Inv-loop rows count n p₀ p = ?
+Inv-loop rows count n p₀ p = (p ≤ count) × ((k : ℕ) → k < p → singular n (take n (drop (k * ROWS) rows)) ≡ false)
 
 abbrev μ-loop : tie.MeasureT-loop
-μ-loop rows count n p₀ p = ?
+μ-loop rows count n p₀ p = count - p
 
--- src/running.rt:108:5
 loop-holds : tie.Need-loop-holds Inv-loop μ-loop
-loop-holds c = ?
+loop-holds c = (omega arith, λ k h. absurd (omega arith))
 
--- src/running.rt:109:20
 pass-rows-requires : tie.Need-pass-rows-requires Inv-loop μ-loop
-pass-rows-requires c κs = ?
+pass-rows-requires c κs = search needs
 
--- src/running.rt:110:12
 is-singular-requires : tie.Need-is-singular-requires Inv-loop μ-loop
-is-singular-requires c κs = ?
+is-singular-requires c κs = search needs
 
--- src/running.rt:111:13
 returns : tie.Need-returns Inv-loop μ-loop
-returns c = ?
+returns c =
+    let a = c .before .before .before .before .before .before .args in
+    let p = c .before .before .before .before .before .loop .p in
+    sym (some-intro (λ p. singular (a .n) (take (a .n) (drop (p * ROWS) (a .rows .now)))) (a .count) p (omega arith)
+    (ap (singular (a .n)) (part-matrix (a .rows .now) (c .before .before .before .pass-rows .result) p (a .n) (omega arith) (c .before .before .before .pass-rows .ensures)) ∙ sym (c .before .is-singular .ensures) ∙ c .if1 .taken))
 
--- src/running.rt:113:9
 add-p : tie.Need-add-p Inv-loop μ-loop
-add-p c = ?
+add-p c = search needs
 
--- src/running.rt:108:5
 loop-less : tie.Need-loop-less Inv-loop μ-loop
-loop-less c = ?
+loop-less c = search needs
 
--- src/running.rt:108:5
 loop-again : tie.Need-loop-again Inv-loop μ-loop
-loop-again c = ?
+loop-again c =
+    let a = c .before .before .before .before .before .before .args in
+    let p = c .before .before .before .before .before .loop .p in (
+      omega arith,
+      below-more (λ k. singular (a .n) (take (a .n) (drop (k * ROWS) (a .rows .now))) ≡ false) p (c .before .before .before .before .before .loop .inv .1)
+          (ap (singular (a .n)) (part-matrix (a .rows .now) (c .before .before .before .pass-rows .result) p (a .n) (omega arith) (c .before .before .before .pass-rows .ensures)) ∙ sym (c .before .is-singular .ensures) ∙ c .if1 .left),
+    )
 
--- src/running.rt:103:1
 returns-2 : tie.Need-returns-2 Inv-loop μ-loop
-returns-2 c = ?
+returns-2 c =
+    let a = c .before .before .args in
+    sym (none-intro (λ p. singular (a .n) (take (a .n) (drop (p * ROWS) (a .rows .now)))) (a .count) (λ k h. c .before .loop .inv .1 k (omega arith)))
 
 pub singular-passes-spec : {M : Type 1} → statement M
 singular-passes-spec =

@@ -1,73 +1,71 @@
+-- `plan::running::total_steps` meets its contract: in powers of two, small enough not to wrap. Assumes nothing.
+use mathlib.Core.Path.{ap₂, sym, _∙_}
+use Prim.Native.Nat.{_*_}
+use native.Mathlib.Omega.{arith}
 use borrow.Author.Needs.{needs}
+use borrow.Author.Tests.{not-true, not-false}
+use Rattle.plan.proofs.Judging.{records-small, size-allowed, size-few, stripe-small, stripe-some, total-outside, total-powers, total-small}
 use Rattle.plan.proofs.running.total_steps.Statement.{statement}
 use Rattle.plan.proofs.running.total_steps.Tie as tie
-use Rattle.plan.proofs.running.total_steps.Reads as reads
-use Rattle.plan.proofs.running.total_steps.Lts as lts
-use Rattle.bank.proofs.in_limits.Reads as in-limits-reads
-use Rattle.bank.proofs.power.Reads as power-reads
-use Rattle.bank.proofs.wide.Reads as wide-reads
-use Rattle.plan.proofs.running.count_in_limits.Reads as count-in-limits-reads
 
--- src/running.rt:181:9
-in-limits-requires : tie.Need-in-limits-requires
-in-limits-requires c κs = search needs
+size-in-limits-requires : tie.Need-size-in-limits-requires
+size-in-limits-requires c κs = search needs
 
--- src/running.rt:182:9
 returns : tie.Need-returns
-returns c = ?
+returns c = sym (total-outside (c .before .before .args .plan) (sym (c .before .size-in-limits .ensures) ∙ not-true _ (c .if1 .taken)))
 
--- src/running.rt:184:9
-count-in-limits-requires : tie.Need-count-in-limits-requires
-count-in-limits-requires c κs = search needs
-
--- src/running.rt:185:9
-returns-2 : tie.Need-returns-2
-returns-2 c = ?
-
--- src/running.rt:187:9
 power-requires : tie.Need-power-requires
-power-requires c κs = ?
+power-requires c κs = omega (arith, size-allowed (c .before .before .args .plan) (sym (c .before .size-in-limits .ensures) ∙ not-false _ (c .if1 .left)) .n-high)
 
--- src/running.rt:188:9
 power-requires-2 : tie.Need-power-requires-2
-power-requires-2 c κs = ?
+power-requires-2 c κs =
+    let k = size-allowed (c .before .before .before .args .plan) (sym (c .before .before .size-in-limits .ensures) ∙ not-false _ (c .before .if1 .left)) in
+    omega (arith, k .n-high, k .memory-below, k .block-below)
 
--- src/running.rt:189:9
 power-requires-3 : tie.Need-power-requires-3
-power-requires-3 c κs = ?
+power-requires-3 c κs =
+    let k = size-allowed (c .before .before .before .before .args .plan) (sym (c .before .before .before .size-in-limits .ensures) ∙ not-false _ (c .before .before .if1 .left)) in
+    omega (arith, k .n-high, k .memory-below, k .drives-fit)
 
--- src/running.rt:190:5
 mul-result : tie.Need-mul-result
-mul-result c = ?
+mul-result c =
+    let plan = c .before .before .before .before .before .args .plan in
+    omega (arith, records-small (plan .geometry) (size-allowed plan (sym (c .before .before .before .before .size-in-limits .ensures) ∙ not-false _ (c .before .before .before .if1 .left))), c .before .before .power .ensures)
 
--- src/running.rt:190:17
 mul-result-2 : tie.Need-mul-result-2
-mul-result-2 c = ?
+mul-result-2 c =
+    let plan = c .before .before .before .before .before .args .plan in
+    omega (arith, stripe-small (plan .geometry) (size-allowed plan (sym (c .before .before .before .before .size-in-limits .ensures) ∙ not-false _ (c .before .before .before .if1 .left))), ap₂ _*_ (c .before .power2 .ensures) (c .power3 .ensures))
 
--- src/running.rt:190:5
 div-result : tie.Need-div-result
-div-result c = ?
+div-result c =
+    let plan = c .before .before .before .before .before .args .plan in
+    omega (arith, stripe-some (plan .geometry) (size-allowed plan (sym (c .before .before .before .before .size-in-limits .ensures) ∙ not-false _ (c .before .before .before .if1 .left))), ap₂ _*_ (c .before .power2 .ensures) (c .power3 .ensures))
 
--- src/running.rt:190:35
 wide-requires : tie.Need-wide-requires
 wide-requires c κs = search needs
 
--- src/running.rt:190:5
 mul-result-3 : tie.Need-mul-result-3
-mul-result-3 c = ?
+mul-result-3 c =
+    let plan = c .before .before .before .before .before .before .args .plan in
+    let inside = sym (c .before .before .before .before .before .size-in-limits .ensures) ∙ not-false _ (c .before .before .before .before .if1 .left) in
+    omega (
+      arith,
+      total-small (c .before .before .before .power .result) (c .before .before .power2 .result * c .before .power3 .result) (c .wide .result)
+          (omega (arith, records-small (plan .geometry) (size-allowed plan inside), c .before .before .before .power .ensures)) (omega (arith, size-few plan inside, c .wide .ensures)),
+    )
 
--- src/running.rt:178:1
-returns-3 : tie.Need-returns-3
-returns-3 c = ?
+returns-2 : tie.Need-returns-2
+returns-2 c =
+    let plan = c .before .before .before .before .before .before .args .plan in
+    cc (total-powers plan (sym (c .before .before .before .before .before .size-in-limits .ensures) ∙ not-false _ (c .before .before .before .before .if1 .left)))
 
 pub total-steps-spec : {M : Type 1} → statement M
 total-steps-spec =
     tie.close
     (tie.spec
-    in-limits-requires
+    size-in-limits-requires
     returns
-    count-in-limits-requires
-    returns-2
     power-requires
     power-requires-2
     power-requires-3
@@ -76,4 +74,4 @@ total-steps-spec =
     div-result
     wide-requires
     mul-result-3
-    returns-3)
+    returns-2)
