@@ -108,9 +108,5 @@ module _ (room n b m : ℕ) (small : room ≤ 32) (hm : m ≤ n) (hn : n ≤ roo
       ap₂ (λ (x y : ℕ). bitXor x (y % 2 ^ 32)) ep is ∙ ap (bitXor (2 ^ j)) (mod-eq-of-lt (lt-of-lt-of-le (e-small n b m hm cols j) (pow-mono fits)))
 
 -- ---- δ and φ, of the first n columns of an array
-pub delta-take : (m n : ℕ) (cols : List ℕ) → map (λ v. v / 2 ^ m) (take (n - m) (drop m cols)) ≡ delta m (take n cols)
-unfolding delta
-delta-take m n cols = ap (map (λ v. v / 2 ^ m)) (sym (drop-take m n cols))
-
 pub phi-there : (m n j : ℕ) (cols : List ℕ) → m ≤ n → j < m → getD cols j 0 / 2 ^ m ≡ getD (phi m (take n cols)) j 0
 phi-there m n j cols h l = phi-column m cols j l ∙ ap (λ (f : List ℕ). getD f j 0) (sym (phi-take m n cols h))

@@ -3,7 +3,6 @@ use mathlib.Core.Path.{_∙_, _≡_, ap, ap₂, sym}
 use mathlib.Core.List.{List, _++_}
 use Prim.Native.Nat.{_+_, _-_, _<_, _≤_, ℕ}
 use native.Mathlib.Nat.{add-zero}
-use native.Mathlib.Omega.{arith}
 use lib.ListN.{getD, length, length-append, replicate, take}
 use lib.Seq.{getD-append-add, getD-take, length-take-le, take-at}
 use Rattle.matrix.proofs.Filled.{filled}

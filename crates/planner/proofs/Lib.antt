@@ -1,4 +1,5 @@
 pub mod Lower
+pub mod Products
 pub mod Masks
 pub mod Marked
 pub mod Followed
@@ -7,4 +8,3 @@ pub mod Steps
 pub mod Places
 pub mod Swapping
 pub mod Erasing
-pub mod Products

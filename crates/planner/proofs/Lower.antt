@@ -5,6 +5,8 @@ use Prim.Native.Nat.{_+_, _-_, _/_, _<_, _^_, _≤_, ℕ}
 use native.Mathlib.Nat.{zero-div}
 use native.Mathlib.Omega.{arith}
 use lib.ListN.{List·getD-map, drop, getD, length, length-drop, length-map, take}
+use Rattle.algebra.proofs.Questions.{drop-take}
+use Rattle.planning.specs.Columns.{delta}
 use lib.Seq.{getD-drop, getD-take, length-take-le}
 
 -- the lower part of k columns, from the place given on
@@ -18,3 +20,8 @@ pub lower-at : (cols : List ℕ) (from k m i : ℕ) → i < k → getD (lowerPar
 lower-at cols from k m i h =
     ap (getD (lowerPart cols from k m) i) (sym (zero-div (2 ^ m))) ∙ List·getD-map (λ v. v / 2 ^ m) (take k (drop from cols)) i 0
     ∙ ap (λ (v : ℕ). v / 2 ^ m) (getD-take k (drop from cols) i 0 h ∙ getD-drop from cols i 0)
+
+-- of the first n columns, δ
+pub delta-lower : (n m : ℕ) (cols : List ℕ) → map (λ v. v / 2 ^ m) (take (n - m) (drop m cols)) ≡ delta m (take n cols)
+unfolding delta
+delta-lower n m cols = ap (map (λ v. v / 2 ^ m)) (sym (drop-take m n cols))

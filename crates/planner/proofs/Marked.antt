@@ -2,11 +2,10 @@
 use mathlib.Core.Path.{_∙_, _≡_, ap, refl, subst, sym}
 use mathlib.Core.Bool.{Bool, false, true}
 use mathlib.Core.List.{List, _++_}
-use Prim.Native.Nat.{_<_, _^_, _≤_, suc, ℕ}
-use native.Mathlib.Nat.{le-refl}
+use Prim.Native.Nat.{_<_, _^_, _≤_, ℕ}
 use native.Mathlib.Omega.{arith}
 use lib.Dec.{eqb}
-use lib.ListN.{getD, length, take}
+use lib.ListN.{getD, length}
 use lib.Seq.{take-append-seam}
 use borrow.Author.Tests.{eqb-false, eqb-true}
 use Rattle.algebra.proofs.Basis.{rest→marked, rest→unmarked}

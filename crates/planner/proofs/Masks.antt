@@ -1,7 +1,7 @@
 -- Which bits has a set of columns, and what is left of it without the lowest? Assumes nothing.
-use mathlib.Core.Path.{_∙_, _≡_, ap, ap₂, refl, subst, sym}
+use mathlib.Core.Path.{_∙_, _≡_, ap, ap₂, refl, sym}
 use mathlib.Core.Bool.{Bool, _&&_, false, true}
-use mathlib.Core.Logic.{_⊎_, inl, inr, ⊎-elim}
+use mathlib.Core.Logic.{_⊎_, ⊎-elim}
 use mathlib.Core.List.{List, [], _∷_}
 use Prim.Native.Nat.{_%_, _+_, _-_, _/_, _<_, _^_, _≤_, suc, zero, ℕ}
 use native.Mathlib.Nat.{le-refl, le-suc, lt-of-lt-of-le, not-suc-le-zero}
@@ -9,11 +9,11 @@ use native.Mathlib.Numerals.{add-one}
 use native.Mathlib.Omega.{arith}
 use lib.Bits.{bitXor, xor-lt, xor-zero-r}
 use lib.Count.{trailingZeros, under}
-use lib.Dec.{eqb, leb, ltb}
+use lib.Dec.{eqb, ltb}
 use lib.Pow.{pow-lt, pow-mono, pow-pos}
-use borrow.Author.Tests.{eq-eqb, eqb-true, le-leb, le-ltb, lt-leb, lt-ltb, ne-eqb}
+use borrow.Author.Tests.{le-leb, le-ltb, lt-leb, lt-ltb}
 use Rattle.algebra.proofs.Built.{lowest-on}
-use Rattle.algebra.proofs.Digits.{bit-cases, bit-here, bit-lt, bit-place, bit-suc, bit-times, bit-xor, bit-zero, digit, half-lt, times-lt, times-zero}
+use Rattle.algebra.proofs.Digits.{bit-cases, bit-here, bit-lt, bit-place, bit-suc, bit-times, bit-xor, bit-zero, times-lt, times-zero}
 use Rattle.algebra.proofs.Loops.{times-nil, times-not}
 use Rattle.algebra.proofs.Search.{below-suc}
 use Rattle.algebra.specs.Matrix.{oneIf}

@@ -2,7 +2,7 @@
 use mathlib.Core.Path.{_∙_, _≡_, ap, ap₂, refl, subst, sym}
 use mathlib.Core.Bool.{Bool, false, not, true}
 use mathlib.Core.Logic.{⊎-elim}
-use mathlib.Core.List.{List, [], _++_, _∷_, map}
+use mathlib.Core.List.{List, _++_, _∷_, map}
 use Prim.Native.Nat.{_%_, _+_, _-_, _/_, _<_, _^_, _≤_, suc, zero, ℕ}
 use native.Mathlib.Nat.{add-suc, add-zero, le-refl, sub-zero, suc-add, zero-add}
 use native.Mathlib.Omega.{arith}
@@ -21,21 +21,19 @@ use Rattle.algebra.specs.Elimination.{Echelon, built, used}
 use Rattle.algebra.specs.Matrix.{columns, marked, oneIf, product}
 use Rattle.algebra.specs.Search.{which}
 use Rattle.algebra.specs.Vector.{bit, times}
-use Rattle.planning.proofs.Acts.{adding-at, listed-length}
+use Rattle.planning.proofs.Acts.{adding-at, adding-length, listed-length}
 use Rattle.planning.proofs.Bridges.{reached-marked, summands-used}
 use Rattle.planning.proofs.Dimension.{which-ext}
 use Rattle.planning.proofs.Step2.{after-length, summands-high, summands-marked}
 use Rattle.planning.specs.Columns.{adding, after, delta, phi}
 use Rattle.planning.specs.Making.{chosen, mate, operations, reached, step1, step2, summands, unmarked}
 use Rattle.planner.specs.Marks.{bare, maskOf, placesOf}
+use Rattle.planner.proofs.Lower.{delta-lower}
 use Rattle.planner.proofs.Marked.{marked-front}
+use Rattle.planner.proofs.Products.{product-after}
 use Rattle.planner.proofs.Masks.{bare-high, bare-in, bare-low, mask-bit, oneIf-is}
 
 -- ---- columns added
-pub adding-length : (g : ℕ → ℕ) (n : ℕ) → length (adding g n) ≡ n
-unfolding adding
-adding-length g n = listed-length (λ j. bitXor (2 ^ j) (g j)) n 0
-
 pub adding-column : (g : ℕ → ℕ) (n j : ℕ) → j < n → getD (adding g n) j 0 ≡ bitXor (2 ^ j) (g j)
 adding-column g n j h = sym (comb-one (adding g n) j) ∙ adding-at g n j h
 
@@ -51,10 +49,6 @@ module _ (room k : ℕ) (array list : List ℕ) (fits : k ≤ room) (long : leng
   held-filled = is ∙ ap (λ (l : List ℕ). l ++ replicate (room - k) 0) (sym held-take)
 
 -- ---- the lower parts of the first n columns
-pub delta-lower : (n m : ℕ) (cols : List ℕ) → map (λ v. v / 2 ^ m) (take (n - m) (drop m cols)) ≡ delta m (take n cols)
-unfolding delta
-delta-lower n m cols = ap (map (λ v. v / 2 ^ m)) (sym (drop-take m n cols))
-
 pub phi-lower : (n m : ℕ) (cols : List ℕ) → m ≤ n → map (λ v. v / 2 ^ m) (take (m - 0) (drop 0 cols)) ≡ phi m (take n cols)
 unfolding phi
 phi-lower n m cols h = ap (map (λ v. v / 2 ^ m)) (ap (λ (k : ℕ). take k cols) (sub-zero m) ∙ sym (take-take m n cols h))
@@ -195,10 +189,6 @@ step2-code room n m hm hn cols f set e lf hc ef es ee j h =
 step1-length : (n m : ℕ) (cols : List ℕ) → length (step1 n m cols) ≡ n
 unfolding step1
 step1-length n m cols = adding-length (mate (unmarked n m cols) (chosen n m cols)) n
-
-product-after : (a q : List ℕ) → product q a ≡ after a q
-unfolding after product
-product-after a q = refl
 
 pub operate-code : (n m : ℕ) (rows tail a s1 b s2 p ap1 : List ℕ) → a ≡ columns n (take (n - 0) (drop 0 rows)) ++ tail → s1 ≡ step1 n m (take n a) ++ tail
     → b ≡ product (take n s1) (take n a) ++ tail → s2 ≡ step2 n m (take n b) ++ tail → p ≡ product (take n s2) (take n s1) ++ tail → ap1 ≡ product (take n p) (take n a) ++ tail

@@ -6,7 +6,7 @@ ghost use lib.ListN.{take, drop, replicate};
 ghost use Rattle.bank.specs.Limits.{ROWS};
 use bank::ROWS;
 
-// The lower part of columns from..to, by value.
+// The lower part of columns from..to. The array comes by value: of one behind a reference a proof does not know the length.
 fn lowered(cols: [u32; ROWS], from: usize, to: usize, m: usize) -> [u32; ROWS]
     requires { ⌜ (from ≤ to) × (to ≤ ROWS) × (m < 32) ⌝ }
     ensures { λ r. ⌜ r ≡ map (λ v. v / 2 ^ m) (take (to - from) (drop from cols)) ++ replicate (ROWS - (to - from)) 0 ⌝ }

@@ -41,7 +41,8 @@ fn followed(first: [u32; ROWS], k: usize, second: [u32; ROWS], l: usize) -> [u32
     both
 }
 
-// Each column of m..n that is not in the set gets one of the columns n - m.. in it, counted from there; lowest with lowest.
+// The matrix that adds into each column of m..n that is not in the set one that is chosen, lowest with lowest, until one kind runs out.
+// In the set, columns m..n stand first, and then columns 0..m: those of them that are in it are the chosen ones.
 fn paired(set: u32, n: usize, m: usize) -> [u32; ROWS]
     requires { ⌜ (m < n) × (n ≤ ROWS) × (set < 2 ^ n) ⌝ }
     ensures { λ r. ⌜ r ≡ adding (mate (which (bare set m n) n 0) (placesOf m (set / 2 ^ (n - m)))) n ++ replicate (ROWS - n) 0 ⌝ }

@@ -255,6 +255,10 @@ first-lt p n h = go (some p n) refl
 
 -- ---- more on adding and placing
 module _ (g : ℕ → ℕ) (n : ℕ) where
+  pub adding-length : length (adding g n) ≡ n
+  unfolding adding
+  adding-length = listed-length (λ j. bitXor (2 ^ j) (g j)) n 0
+
   pub adding-at : (j : ℕ) → j < n → comb (adding g n) (2 ^ j) ≡ bitXor (2 ^ j) (g j)
   unfolding adding
   adding-at j h =

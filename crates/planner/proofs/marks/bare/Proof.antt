@@ -1,5 +1,5 @@
 -- `planner::marks::bare` meets its contract: each return is one case of the definition. Assumes nothing.
-use mathlib.Core.Path.{_≡_, ap, sym}
+use mathlib.Core.Path.{ap, sym}
 use native.Mathlib.Omega.{arith}
 use borrow.Author.Needs.{needs}
 use Rattle.algebra.specs.Matrix.{oneIf}

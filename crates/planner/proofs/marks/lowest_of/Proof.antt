@@ -1,5 +1,5 @@
 -- `planner::marks::lowest_of` meets its contract: a set that is not empty has a lowest bit below 32. Assumes nothing.
-use mathlib.Core.Path.{_∙_, _≡_, ap, subst, sym}
+use mathlib.Core.Path.{_∙_, ap, subst, sym}
 use Prim.Native.Nat.{_<_, _^_, ℕ}
 use native.Mathlib.Nat.{le-refl}
 use native.Mathlib.Omega.{arith}

@@ -1,5 +1,5 @@
 -- `planner::marks::marks` meets its contract. The loop's invariant: the entries and the marks after j columns. Assumes nothing.
-use mathlib.Core.Path.{_∙_, _≡_, ap, ap₂, refl, sym}
+use mathlib.Core.Path.{_∙_, _≡_, ap, ap₂, refl}
 use Prim.Native.Nat.{_-_, _<_, _^_, _≤_, ℕ}
 use native.Mathlib.Omega.{arith}
 use lib.Bits.{bitXor}

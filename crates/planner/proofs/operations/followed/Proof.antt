@@ -1,9 +1,9 @@
 -- `planner::operations::followed` meets its contract. The loop's invariant: the first i of the second list are in place. Assumes nothing.
-use mathlib.Core.Path.{_∙_, _≡_, ap, refl, sym}
+use mathlib.Core.Path.{_∙_, _≡_, ap, sym}
 use mathlib.Core.List.{_++_}
 use Prim.Native.Nat.{_+_, _-_, _≤_}
 use native.Mathlib.Omega.{arith}
-use lib.ListN.{getD, length, take}
+use lib.ListN.{getD, take}
 use borrow.Author.Needs.{needs}
 use Rattle.bank.specs.Limits.{ROWS}
 use Rattle.matrix.proofs.Filled.{filled, filled-all, filled-next}

@@ -15,7 +15,8 @@ use Rattle.planning.specs.Columns.{adding}
 use Rattle.planning.specs.Making.{mate}
 use Rattle.planner.specs.Marks.{bare, placesOf}
 use Rattle.planner.proofs.Pairs.{gets, turn-later, turn-now, turn-small}
-use Rattle.planner.proofs.Steps.{adding-column, adding-length}
+use Rattle.planning.proofs.Acts.{adding-length}
+use Rattle.planner.proofs.Steps.{adding-column}
 use Rattle.planner.proofs.operations.paired.Statement.{statement}
 use Rattle.planner.proofs.operations.paired.Tie as tie
 

@@ -1,5 +1,5 @@
 -- `planner::operations::step1` meets its contract: the columns of φ that are marked behind those of δ are W. Assumes nothing.
-use mathlib.Core.Path.{_∙_, _≡_, ap, subst, sym}
+use mathlib.Core.Path.{_∙_, ap, subst, sym}
 use mathlib.Core.List.{List, _++_, map}
 use Prim.Native.Nat.{_-_, _/_, _<_, _^_, ℕ}
 use native.Mathlib.Omega.{arith}

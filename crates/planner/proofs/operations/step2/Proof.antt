@@ -1,10 +1,9 @@
 -- `planner::operations::step2` meets its contract. The loop's invariant: the first j columns are in place. Assumes nothing.
-use mathlib.Core.Path.{_∙_, _≡_, ap, ap₂, refl, sym}
-use mathlib.Core.List.{List, _++_, map}
-use Prim.Native.Nat.{_-_, _/_, _<_, _^_, _≤_, ℕ}
+use mathlib.Core.Path.{_∙_, _≡_, ap₂, refl}
+use Prim.Native.Nat.{_-_, _≤_}
 use native.Mathlib.Omega.{arith}
 use lib.Bits.{bitXor}
-use lib.ListN.{getD, replicate, take}
+use lib.ListN.{take}
 use mir.Syntax.{w32}
 use borrow.Author.Needs.{elem-fits, needs}
 use Rattle.bank.specs.Limits.{ROWS}

@@ -10,7 +10,8 @@ use Rattle.bank.specs.Limits.{ROWS}
 use Rattle.matrix.specs.Echelon.{echelonOf}
 use Rattle.algebra.proofs.Built.{built-count}
 use Rattle.planning.specs.Columns.{adding}
-use Rattle.planner.proofs.Erasing.{column-erased, delta-take, erased, erased-all, erased-more, erased-none, phi-there}
+use Rattle.planner.proofs.Lower.{delta-lower}
+use Rattle.planner.proofs.Erasing.{column-erased, erased, erased-all, erased-more, erased-none, phi-there}
 use Rattle.planner.proofs.rounds.erases.Statement.{statement}
 use Rattle.planner.proofs.rounds.erases.Tie as tie
 
@@ -93,7 +94,7 @@ loop-again c =
     let v = getD (a .cols .now) (l .j) 0 / 2 ^ a .m in
     let column =
     column-erased ROWS (a .n) (a .b) (a .m) (omega arith) (omega arith) (omega arith) cols (s .pre .3) (l .j) (search needs) (search needs) (lower .result) (replicate (ROWS - (a .n - a .m)) 0)
-    (lower .ensures ∙ ap (λ (t : List ℕ). t ++ replicate (ROWS - (a .n - a .m)) 0) (delta-take (a .m) (a .n) (a .cols .now))) (echelonOf (e .result)) (e .ensures)
+    (lower .ensures ∙ ap (λ (t : List ℕ). t ++ replicate (ROWS - (a .n - a .m)) 0) (delta-lower (a .n) (a .m) (a .cols .now))) (echelonOf (e .result)) (e .ensures)
     (c .before .power .result) v (r .result .tag) (c .before .power .ensures) (phi-there (a .m) (a .n) (l .j) (a .cols .now) (omega arith) (search needs)) (r .ensures .1) in (
       search needs,
       search needs,

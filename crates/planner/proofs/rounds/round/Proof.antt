@@ -9,7 +9,7 @@ use Rattle.bank.specs.Limits.{ROWS}
 use Rattle.planning.specs.Columns.{after}
 use Rattle.planning.specs.Making.{erases, swaps}
 use Rattle.planning.proofs.Round.{Sound, swapped-sound}
-use Rattle.planner.proofs.Products.{erases-front, product-after, swapped-front, swaps-front}
+use Rattle.planner.proofs.Products.{erases-front, front-after, swapped-front, swaps-front}
 use Rattle.planner.proofs.rounds.round.Statement.{statement}
 use Rattle.planner.proofs.rounds.round.Tie as tie
 
@@ -50,8 +50,8 @@ returns c =
     let s = swaps (a .n) (a .b) (a .m) cols in
     let swapped = after cols s in
     let e = erases (a .n) (a .b) (a .m) swapped in (
-      c .before .before .before .product2 .ensures ∙ ap (λ (l : List ℕ). l ++ rest) (product-after (a .n) (E .result) e (S .result) s e-front s-front),
-      c .product3 .ensures ∙ ap (λ (l : List ℕ). l ++ rest) (product-after (a .n) (w .result) swapped (E .result) e w-front e-front),
+      c .before .before .before .product2 .ensures ∙ ap (λ (l : List ℕ). l ++ rest) (front-after (a .n) (E .result) e (S .result) s e-front s-front),
+      c .product3 .ensures ∙ ap (λ (l : List ℕ). l ++ rest) (front-after (a .n) (w .result) swapped (E .result) e w-front e-front),
     )
 
 pub round-spec : {M : Type 1} → statement M
