@@ -11,7 +11,7 @@ use Rattle.bank.specs.Limits.{PASSES, ROWS}
 use Rattle.bank.specs.declared.Geometry.{Geometry}
 use Rattle.algebra.specs.Matrix.{columns, identity, product}
 use Rattle.algebra.specs.Vector.{comb}
-use Rattle.algebra.proofs.Columns.{columns-length, identity-at, identity-length, product-length}
+use Rattle.algebra.proofs.Columns.{columns-length, identity-at, identity-length}
 use Rattle.algebra.proofs.Linear.{comb-one}
 use Rattle.algebra.proofs.Questions.{columns-whole}
 use Rattle.planning.specs.Columns.{after}
@@ -27,16 +27,16 @@ use Rattle.planning.proofs.Rounds.{Good, busy-some, complemented-more, round-go
 use Rattle.planning.proofs.Run.{first-length}
 use Rattle.planning.proofs.Step2.{after-length, undone-operations}
 use Rattle.planner.proofs.Products.{product-after, take-front}
+use Rattle.planner.proofs.Steps.{held-take}
 use Rattle.plan.specs.Store.{withPass}
 use Rattle.plan.proofs.Storing.{stored-more}
 
 -- the rows of A Q, array by array
-pub rows-code : (room n : ℕ) (a q both r : List ℕ) → n ≤ length q → both ≡ product (take n q) (take n a) ++ replicate (room - n) 0
+pub rows-code : (room n : ℕ) (a q both r : List ℕ) → n ≤ room → length both ≡ room → both ≡ product (take n q) (take n a) ++ replicate (room - n) 0
     → r ≡ columns n (take (n - 0) (drop 0 both)) ++ replicate (room - n) 0 → r ≡ columns n (after (take n a) (take n q)) ++ replicate (room - n) 0
-rows-code room n a q both r h e f =
+rows-code room n a q both r h l e f =
     columns-whole room n both r f
-    ∙ ap (λ (l : List ℕ). columns n l ++ replicate (room - n) 0)
-    (take-front n both (product (take n q) (take n a)) (replicate (room - n) 0) (product-length n q (take n a) h) e ∙ product-after n a (take n a) q (take n q) refl refl)
+    ∙ ap (λ (x : List ℕ). columns n x ++ replicate (room - n) 0) (held-take room n both (product (take n q) (take n a)) h l e ∙ product-after n a (take n a) q (take n q) refl refl)
 
 -- A times the identity is A
 pub after-identity : (n : ℕ) (a : List ℕ) → length a ≡ n → after a (identity n) ≡ a
@@ -103,8 +103,8 @@ module _ (g : Geometry) (n b m c : ℕ) (hb : b < m) (hm : m ≤ n) where
         → plan' ≡ planOf (record { geometry = g; passes = k .done ++ (record { rows = f; complement = e } ∷ []) })
     put f rows e plan' l h is =
         is ∙ ap (λ (x : Plan). withPass x p rows e) (k .stored)
-        ∙ ap₂ (λ (i : ℕ) (r : List ℕ). withPass (planOf (record { geometry = g; passes = k .done })) i r e) (sym (k .counted)) (h ∙ ap (λ (i : ℕ). f ++ replicate (ROWS - i) 0) (sym l))
-        ∙ stored-more g (k .done) f e (omega (arith, make-room, k .counted)) (omega arith)
+        ∙ ap₂ (λ (i : ℕ) (r : List ℕ). withPass (planOf (record { geometry = g; passes = k .done })) i r e) (sym (k .counted)) h
+        ∙ sym (stored-more g (k .done) f e n (omega (arith, make-room, k .counted)) wide l)
 
     module _ (more : busy m cols ≡ true) where
       -- a turn is left

@@ -20,7 +20,7 @@ columns-requires c κs = search needs
 returns : tie.Need-returns
 returns c =
     let a = c .before .before .before .args in
-    rows-code ROWS (a .n) (a .a .now) (a .q .now) (c .before .before .product .result) (c .columns .result) (search needs) (c .before .before .product .ensures) (c .columns .ensures)
+    rows-code ROWS (a .n) (a .a .now) (a .q .now) (c .before .before .product .result) (c .columns .result) (search needs) (search needs) (c .before .before .product .ensures) (c .columns .ensures)
 
 pub rows-after-spec : {M : Type 1} → statement M
 rows-after-spec = tie.close (tie.spec product-requires columns-requires returns)
