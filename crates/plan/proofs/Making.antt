@@ -2,34 +2,37 @@
 use mathlib.Core.Path.{_∙_, _≡_, ap, ap₂, refl, subst, sym}
 use mathlib.Core.Bool.{false, true}
 use mathlib.Core.List.{List, [], _∷_, _++_, append-assoc, map}
-use Prim.Native.Nat.{_+_, _-_, _<_, _≤_, suc, zero, ℕ}
+use Prim.Native.Nat.{_*_, _+_, _-_, _<_, _≤_, suc, zero, ℕ}
 use native.Mathlib.Nat.{sub-zero}
 use native.Mathlib.Omega.{arith}
 use lib.ListN.{drop, getD, length, length-append, length-map, replicate, take}
-use lib.Seq.{ext-getD}
+use lib.Seq.{ext-getD, length-take-le}
+use Rattle.bank.proofs.Limits.{Allowed, limits→allowed}
+use Rattle.bank.specs.Geometry.{inLimits}
 use Rattle.bank.specs.Limits.{PASSES, ROWS}
 use Rattle.bank.specs.declared.Geometry.{Geometry}
-use Rattle.algebra.specs.Matrix.{columns, identity, product}
+use Rattle.algebra.specs.Matrix.{columns, identity, product, singular}
 use Rattle.algebra.specs.Vector.{comb}
 use Rattle.algebra.proofs.Columns.{columns-length, identity-at, identity-length}
 use Rattle.algebra.proofs.Linear.{comb-one}
 use Rattle.algebra.proofs.Questions.{columns-whole}
-use Rattle.planning.specs.Columns.{after}
+use Rattle.algebra.proofs.Rank.{rank-le}
+use Rattle.planning.specs.Columns.{after, phi}
 use Rattle.planning.specs.Making.{busy, dividedUp, erases, firstAfter, operations, passMatrices, passesFor, rounds, swaps}
 use Rattle.planning.specs.Pass.{Pass, complemented}
-use Rattle.planning.specs.Stored.{planOf}
+use Rattle.planning.specs.Stored.{planFor, planOf}
 use Rattle.planning.specs.declared.Plan.{Plan}
 use Rattle.planning.proofs.Acts.{All}
 use Rattle.planning.proofs.Bridges.{column-after}
-use Rattle.planning.proofs.Made.{complemented-length}
+use Rattle.planning.proofs.Made.{complemented-length, made-few}
 use Rattle.planning.proofs.Round.{Sound, next-nonzero, next-sound, nonzero}
 use Rattle.planning.proofs.Rounds.{Good, busy-some, complemented-more, round-good, rounds-go, rounds-good, rounds-length, rounds-stop}
-use Rattle.planning.proofs.Run.{first-length}
-use Rattle.planning.proofs.Step2.{after-length, undone-operations}
+use Rattle.planning.proofs.Run.{first-length, moved-nonzero, moved-sound}
+use Rattle.planning.proofs.Step2.{after-length, operations-length, undone-operations}
 use Rattle.planner.proofs.Products.{product-after, take-front}
 use Rattle.planner.proofs.Steps.{held-take}
 use Rattle.plan.specs.Store.{withPass}
-use Rattle.plan.proofs.Storing.{stored-more}
+use Rattle.plan.proofs.Storing.{stored-more, stored-none}
 
 -- the rows of A Q, array by array
 pub rows-code : (room n : ℕ) (a q both r : List ℕ) → n ≤ room → length both ≡ room → both ≡ product (take n q) (take n a) ++ replicate (room - n) 0
@@ -168,3 +171,56 @@ module _ (g : Geometry) (n b m c : ℕ) (hb : b < m) (hm : m ≤ n) where
           put (columns n (after cols q)) rows c plan' (columns-length n (after cols q)) e is
           ∙ ap (λ (l : List Pass). planOf (record { geometry = g; passes = l }))
           (ap (λ (l : List (List ℕ)). k .done ++ complemented (map (columns n) (firstAfter l q)) c) (sym (rounds-stop (m - p) n b m cols none)) ∙ k .comes)
+
+-- ---- the order A, c, in the arrays that hold A P and P
+module _ (g : Geometry) (array : List ℕ) (c : ℕ) (inside : inLimits g ≡ true) (long : length array ≡ ROWS) (regular : singular (g .n) (take (g .n) array) ≡ false)
+    (cols q : List ℕ)
+    (cols-is : cols ≡ after (columns (g .n) (take (g .n) array)) (operations (g .n) (g .m) (columns (g .n) (take (g .n) array))) ++ replicate (ROWS - g .n) 0)
+    (q-is : q ≡ operations (g .n) (g .m) (columns (g .n) (take (g .n) array)) ++ replicate (ROWS - g .n) 0) where
+  k : Allowed g
+  k = limits→allowed g inside
+
+  abbrev rows : List ℕ
+  rows = take (g .n) array
+
+  abbrev P : List ℕ
+  P = operations (g .n) (g .m) (columns (g .n) (take (g .n) array))
+
+  abbrev moved : List ℕ
+  moved = after (columns (g .n) (take (g .n) array)) (operations (g .n) (g .m) (columns (g .n) (take (g .n) array)))
+
+  abbrev all : List Pass
+  all = ahead (g .m) (g .n) (g .b) (g .m) (take (g .n) cols) (take (g .n) q) c
+
+  hm : g .m ≤ g .n
+  hm = omega (arith, k .memory-below)
+
+  rows-length : length rows ≡ g .n
+  rows-length = length-take-le (g .n) array (omega (arith, k .n-high))
+
+  sound : Sound (g .n) (g .m) moved
+  sound = moved-sound (g .n) (g .b) (g .m) (k .block-below) hm rows rows-length regular
+
+  cols-front : take (g .n) cols ≡ moved
+  cols-front = take-front (g .n) cols moved (replicate (ROWS - g .n) 0) (sound .long) cols-is
+
+  q-front : take (g .n) q ≡ P
+  q-front = take-front (g .n) q P (replicate (ROWS - g .n) 0) (operations-length (g .n) (g .m) hm (columns (g .n) rows)) q-is
+
+  order-all : passesFor g rows c ≡ all
+  order-all = all-ahead g rows c hm ∙ sym (ap₂ (λ (l p : List ℕ). ahead (g .m) (g .n) (g .b) (g .m) l p c) cols-front q-front)
+
+  pub order-few : length all ≤ PASSES
+  order-few = subst (λ (l : List Pass). length l ≤ PASSES) order-all (made-few g rows c inside rows-length regular)
+
+  pub order-start : (plan : Plan) → plan ≡ record { geometry = g; count = 0; rows = replicate (PASSES * ROWS) 0; complements = replicate PASSES 0 }
+      → Making g (g .n) (g .b) (g .m) c all plan (take (g .n) cols) (take (g .n) q) 0
+  order-start plan e =
+      make-start g (g .n) (g .b) (g .m) c (k .block-below) hm (take (g .n) cols) (take (g .n) q) plan (subst (Sound (g .n) (g .m)) (sym cols-front) sound)
+      (subst (λ (l : List ℕ). nonzero (g .m) l ≤ g .m) (sym cols-front)
+      (omega (arith, moved-nonzero (g .n) (g .b) (g .m) (k .block-below) hm rows rows-length regular, rank-le (phi (g .m) (columns (g .n) rows)) (g .m))))
+      (e ∙ sym (stored-none g))
+
+  pub order-end : planOf (record { geometry = g; passes = all }) ≡ planFor g rows c
+  unfolding planFor
+  order-end = ap (λ (l : List Pass). planOf (record { geometry = g; passes = l })) (sym order-all)
