@@ -1,2 +1,4 @@
 pub mod Storing
+pub mod Making
+pub mod Answered
 pub mod Judging

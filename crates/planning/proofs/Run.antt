@@ -50,7 +50,7 @@ good-run-all : (n b m : ℕ) → m ≤ n → (ps : List (List ℕ)) → All (Goo
 good-run-all n b m hm [] g = tt
 good-run-all n b m hm (p ∷ ps) g = (good-runs n b m p hm (g .0), good-run-all n b m hm ps (g .1))
 
-first-length : (ps : List (List ℕ)) (q : List ℕ) → length (firstAfter ps q) ≡ length ps
+pub first-length : (ps : List (List ℕ)) (q : List ℕ) → length (firstAfter ps q) ≡ length ps
 unfolding firstAfter
 first-length [] q = refl
 first-length (p ∷ ps) q = refl

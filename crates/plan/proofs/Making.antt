@@ -1,0 +1,226 @@
+-- What has the making of a plan stored, and what is still to come? Assumes nothing.
+use mathlib.Core.Path.{_∙_, _≡_, ap, ap₂, refl, subst, sym}
+use mathlib.Core.Bool.{false, true}
+use mathlib.Core.List.{List, [], _∷_, _++_, append-assoc, map}
+use Prim.Native.Nat.{_*_, _+_, _-_, _<_, _≤_, suc, zero, ℕ}
+use native.Mathlib.Nat.{sub-zero}
+use native.Mathlib.Omega.{arith}
+use lib.ListN.{drop, getD, length, length-append, length-map, replicate, take}
+use lib.Seq.{ext-getD, length-take-le}
+use Rattle.bank.proofs.Limits.{Allowed, limits→allowed}
+use Rattle.bank.specs.Geometry.{inLimits}
+use Rattle.bank.specs.Limits.{PASSES, ROWS}
+use Rattle.bank.specs.declared.Geometry.{Geometry}
+use Rattle.algebra.specs.Matrix.{columns, identity, product, singular}
+use Rattle.algebra.specs.Vector.{comb}
+use Rattle.algebra.proofs.Columns.{columns-length, identity-at, identity-length}
+use Rattle.algebra.proofs.Linear.{comb-one}
+use Rattle.algebra.proofs.Questions.{columns-whole}
+use Rattle.algebra.proofs.Rank.{rank-le}
+use Rattle.planning.specs.Columns.{after, phi}
+use Rattle.planning.specs.Making.{busy, dividedUp, erases, firstAfter, operations, passMatrices, passesFor, rounds, swaps}
+use Rattle.planning.specs.Pass.{Pass, complemented}
+use Rattle.planning.specs.Stored.{planFor, planOf}
+use Rattle.planning.specs.declared.Plan.{Plan}
+use Rattle.planning.proofs.Acts.{All}
+use Rattle.planning.proofs.Bridges.{column-after}
+use Rattle.planning.proofs.Made.{complemented-length, made-few}
+use Rattle.planning.proofs.Round.{Sound, next-nonzero, next-sound, nonzero}
+use Rattle.planning.proofs.Rounds.{Good, busy-some, complemented-more, round-good, rounds-go, rounds-good, rounds-length, rounds-stop}
+use Rattle.planning.proofs.Run.{first-length, moved-nonzero, moved-sound}
+use Rattle.planning.proofs.Step2.{after-length, operations-length, undone-operations}
+use Rattle.planner.proofs.Products.{product-after, take-front}
+use Rattle.planner.proofs.Steps.{held-take}
+use Rattle.plan.specs.Store.{withPass}
+use Rattle.plan.proofs.Storing.{stored-more, stored-none}
+
+-- the rows of A Q, array by array
+pub rows-code : (room n : ℕ) (a q both r : List ℕ) → n ≤ room → length both ≡ room → both ≡ product (take n q) (take n a) ++ replicate (room - n) 0
+    → r ≡ columns n (take (n - 0) (drop 0 both)) ++ replicate (room - n) 0 → r ≡ columns n (after (take n a) (take n q)) ++ replicate (room - n) 0
+rows-code room n a q both r h l e f =
+    columns-whole room n both r f
+    ∙ ap (λ (x : List ℕ). columns n x ++ replicate (room - n) 0) (held-take room n both (product (take n q) (take n a)) h l e ∙ product-after n a (take n a) q (take n q) refl refl)
+
+-- A times the identity is A
+pub after-identity : (n : ℕ) (a : List ℕ) → length a ≡ n → after a (identity n) ≡ a
+after-identity n a e =
+    ext-getD 0 (after a (identity n)) a (long ∙ sym e)
+    (λ j h. column-after a (identity n) j ∙ ap (comb a) (identity-at n j (subst (λ (k : ℕ). j < k) long h)) ∙ comb-one a j)
+  where
+    long : length (after a (identity n)) ≡ n
+    long = after-length a (identity n) ∙ identity-length n
+
+-- so passes stay as they are after it
+first-identity : (n b m : ℕ) (ps : List (List ℕ)) → All (Good n b m) ps → firstAfter ps (identity n) ≡ ps
+unfolding firstAfter
+first-identity n b m [] g = refl
+first-identity n b m (p ∷ ps) g = ap (λ (l : List ℕ). l ∷ ps) (after-identity n p (g .0 .long))
+
+-- ---- the passes still to come: at most k rounds, the first after Q, and then what stays
+abbrev pub ahead : ℕ → ℕ → ℕ → ℕ → List ℕ → List ℕ → ℕ → List Pass
+ahead k n b m cols q c = complemented (map (columns n) (firstAfter (rounds k n b m cols) q)) c
+
+-- at the start they are all
+pub all-ahead : (g : Geometry) (rows : List ℕ) (c : ℕ) → g .m ≤ g .n
+    → passesFor g rows c ≡ ahead (g .m) (g .n) (g .b) (g .m) (after (columns (g .n) rows) (operations (g .n) (g .m) (columns (g .n) rows))) (operations (g .n) (g .m) (columns (g .n) rows)) c
+unfolding passesFor passMatrices
+all-ahead g rows c h =
+    let n = g .n in
+    let A = columns n rows in
+    let P = operations n (g .m) A in
+    ap (λ (q : List ℕ). ahead (g .m) n (g .b) (g .m) (after A P) q c) (undone-operations n (g .m) h A)
+
+-- p passes of all are stored, and the others are those of cols and Q
+pub record Making (g : Geometry) (n b m c : ℕ) (all : List Pass) (plan : Plan) (cols q : List ℕ) (p : ℕ) : Type 0 where
+  pub done : List Pass
+  pub counted : length done ≡ p
+  pub stored : plan ≡ planOf (record { geometry = g; passes = done })
+  pub comes : done ++ ahead (m - p) n b m cols q c ≡ all
+  pub sound : Sound n m cols
+  pub enough : nonzero m cols ≤ m - p
+
+module _ (g : Geometry) (n b m c : ℕ) (hb : b < m) (hm : m ≤ n) where
+  pub make-start : (cols q : List ℕ) (plan : Plan) → Sound n m cols → nonzero m cols ≤ m → plan ≡ planOf (record { geometry = g; passes = [] })
+      → Making g n b m c (ahead m n b m cols q c) plan cols q 0
+  make-start cols q plan k h e = record { done = []; counted = refl; stored = e; comes = ap (λ (i : ℕ). ahead i n b m cols q c) (sub-zero m); sound = k; enough = omega arith }
+
+  module _ (all : List Pass) (plan : Plan) (cols q : List ℕ) (p : ℕ) (k : Making g n b m c all plan cols q p) (few : length all ≤ PASSES) (wide : n ≤ ROWS) where
+    rounds-some : 0 < length (rounds (m - p) n b m cols)
+    rounds-some = omega (arith, rounds-length n b m (omega arith) hm hb (m - p) cols (k .sound) (k .enough))
+
+    -- there is room for one more
+    pub make-room : p < PASSES
+    make-room =
+        omega (
+          arith,
+          ap length (k .comes),
+          length-append (k .done) (ahead (m - p) n b m cols q c),
+          complemented-length (map (columns n) (firstAfter (rounds (m - p) n b m cols) q)) c,
+          length-map (firstAfter (rounds (m - p) n b m cols) q) (columns n),
+          first-length (rounds (m - p) n b m cols) q,
+          rounds-some,
+          k .counted,
+        )
+
+    put : (f rows : List ℕ) (e : ℕ) (plan' : Plan) → length f ≡ n → rows ≡ f ++ replicate (ROWS - n) 0 → plan' ≡ withPass plan p rows e
+        → plan' ≡ planOf (record { geometry = g; passes = k .done ++ (record { rows = f; complement = e } ∷ []) })
+    put f rows e plan' l h is =
+        is ∙ ap (λ (x : Plan). withPass x p rows e) (k .stored)
+        ∙ ap₂ (λ (i : ℕ) (r : List ℕ). withPass (planOf (record { geometry = g; passes = k .done })) i r e) (sym (k .counted)) h
+        ∙ sym (stored-more g (k .done) f e n (omega (arith, make-room, k .counted)) wide l)
+
+    module _ (more : busy m cols ≡ true) where
+      -- a turn is left
+      pub make-goes : p < m
+      make-goes = omega (arith, busy-some m cols more, k .enough)
+
+      abbrev made : List ℕ
+      made = after (erases n b m (after cols (swaps n b m cols))) (swaps n b m cols)
+
+      abbrev next : List ℕ
+      next = after (after cols (swaps n b m cols)) (erases n b m (after cols (swaps n b m cols)))
+
+      made-length : length made ≡ n
+      made-length = round-good n b m (omega arith) hm cols (k .sound) .long
+
+      still : Sound n m next
+      still = next-sound n b m (omega arith) hm cols (k .sound)
+
+      fewer : nonzero m next ≤ m - (p + 1)
+      fewer = omega (arith, next-nonzero n b m (omega arith) hm cols (k .sound), busy-some m cols more, k .enough)
+
+      comes-turn : record { rows = columns n (after made q); complement = 0 } ∷ ahead (m - (p + 1)) n b m next (identity n) c ≡ ahead (m - p) n b m cols q c
+      unfolding firstAfter
+      comes-turn =
+          ap (λ (l : List (List ℕ)). record { rows = columns n (after made q); complement = 0 } ∷ complemented (map (columns n) l) c)
+          (first-identity n b m (rounds (m - (p + 1)) n b m next) (rounds-good n b m (omega arith) hm hb (m - (p + 1)) next still fewer))
+          ∙ sym (complemented-more (columns n (after made q)) (map (columns n) (rounds (m - (p + 1)) n b m next)) c
+          (omega (arith, length-map (rounds (m - (p + 1)) n b m next) (columns n), rounds-length n b m (omega arith) hm hb (m - (p + 1)) next still fewer)))
+          ∙ ap (λ (l : List (List ℕ)). complemented (map (columns n) (firstAfter l q)) c) (sym (rounds-go (m - (p + 1)) n b m cols more))
+          ∙ ap (λ (i : ℕ). ahead i n b m cols q c) (omega (arith, make-goes))
+
+      -- what the round stores, and leaves
+      pub make-turn : (pass left unit rows : List ℕ) (plan' : Plan)
+          → pass ≡ after (erases n b m (after cols (swaps n b m cols))) (swaps n b m cols) ++ replicate (ROWS - n) 0
+          → left ≡ after (after cols (swaps n b m cols)) (erases n b m (after cols (swaps n b m cols))) ++ replicate (ROWS - n) 0
+          → unit ≡ identity n ++ replicate (ROWS - n) 0
+          → rows ≡ columns n (after (take n pass) q) ++ replicate (ROWS - n) 0
+          → plan' ≡ withPass plan p rows 0
+          → Making g n b m c all plan' (take n left) (take n unit) (p + 1)
+      make-turn pass left unit rows plan' e1 e2 e3 e4 e5 =
+          let x : Pass = record { rows = columns n (after made q); complement = 0 } in
+          let pass-is : take n pass ≡ made = take-front n pass made (replicate (ROWS - n) 0) made-length e1 in
+          let left-is : take n left ≡ next = take-front n left next (replicate (ROWS - n) 0) (still .long) e2 in
+          let unit-is : take n unit ≡ identity n = take-front n unit (identity n) (replicate (ROWS - n) 0) (identity-length n) e3 in
+          record {
+            done = k .done ++ (x ∷ []);
+            counted = length-append (k .done) (x ∷ []) ∙ ap (λ (i : ℕ). i + 1) (k .counted);
+            stored = put (columns n (after made q)) rows 0 plan' (columns-length n (after made q)) (e4 ∙ ap (λ (l : List ℕ). columns n (after l q) ++ replicate (ROWS - n) 0) pass-is) e5;
+            comes =
+                ap₂ (λ (l u : List ℕ). (k .done ++ (x ∷ [])) ++ ahead (m - (p + 1)) n b m l u c) left-is unit-is
+                ∙ append-assoc (k .done) (x ∷ []) (ahead (m - (p + 1)) n b m next (identity n) c) ∙ ap (λ (l : List Pass). k .done ++ l) comes-turn ∙ k .comes;
+            sound = subst (Sound n m) (sym left-is) still;
+            enough = subst (λ (l : List ℕ). nonzero m l ≤ m - (p + 1)) (sym left-is) fewer;
+          }
+
+    module _ (none : busy m cols ≡ false) where
+      pub make-end : (rows : List ℕ) (plan' : Plan) → rows ≡ columns n (after cols q) ++ replicate (ROWS - n) 0 → plan' ≡ withPass plan p rows c
+          → plan' ≡ planOf (record { geometry = g; passes = all })
+      unfolding firstAfter complemented
+      make-end rows plan' e is =
+          put (columns n (after cols q)) rows c plan' (columns-length n (after cols q)) e is
+          ∙ ap (λ (l : List Pass). planOf (record { geometry = g; passes = l }))
+          (ap (λ (l : List (List ℕ)). k .done ++ complemented (map (columns n) (firstAfter l q)) c) (sym (rounds-stop (m - p) n b m cols none)) ∙ k .comes)
+
+-- ---- the order A, c, in the arrays that hold A P and P
+module _ (g : Geometry) (array : List ℕ) (c : ℕ) (inside : inLimits g ≡ true) (long : length array ≡ ROWS) (regular : singular (g .n) (take (g .n) array) ≡ false)
+    (cols q : List ℕ)
+    (cols-is : cols ≡ after (columns (g .n) (take (g .n) array)) (operations (g .n) (g .m) (columns (g .n) (take (g .n) array))) ++ replicate (ROWS - g .n) 0)
+    (q-is : q ≡ operations (g .n) (g .m) (columns (g .n) (take (g .n) array)) ++ replicate (ROWS - g .n) 0) where
+  k : Allowed g
+  k = limits→allowed g inside
+
+  abbrev rows : List ℕ
+  rows = take (g .n) array
+
+  abbrev P : List ℕ
+  P = operations (g .n) (g .m) (columns (g .n) (take (g .n) array))
+
+  abbrev moved : List ℕ
+  moved = after (columns (g .n) (take (g .n) array)) (operations (g .n) (g .m) (columns (g .n) (take (g .n) array)))
+
+  abbrev all : List Pass
+  all = ahead (g .m) (g .n) (g .b) (g .m) (take (g .n) cols) (take (g .n) q) c
+
+  hm : g .m ≤ g .n
+  hm = omega (arith, k .memory-below)
+
+  rows-length : length rows ≡ g .n
+  rows-length = length-take-le (g .n) array (omega (arith, k .n-high))
+
+  sound : Sound (g .n) (g .m) moved
+  sound = moved-sound (g .n) (g .b) (g .m) (k .block-below) hm rows rows-length regular
+
+  cols-front : take (g .n) cols ≡ moved
+  cols-front = take-front (g .n) cols moved (replicate (ROWS - g .n) 0) (sound .long) cols-is
+
+  q-front : take (g .n) q ≡ P
+  q-front = take-front (g .n) q P (replicate (ROWS - g .n) 0) (operations-length (g .n) (g .m) hm (columns (g .n) rows)) q-is
+
+  order-all : passesFor g rows c ≡ all
+  order-all = all-ahead g rows c hm ∙ sym (ap₂ (λ (l p : List ℕ). ahead (g .m) (g .n) (g .b) (g .m) l p c) cols-front q-front)
+
+  pub order-few : length all ≤ PASSES
+  order-few = subst (λ (l : List Pass). length l ≤ PASSES) order-all (made-few g rows c inside rows-length regular)
+
+  pub order-start : (plan : Plan) → plan ≡ record { geometry = g; count = 0; rows = replicate (PASSES * ROWS) 0; complements = replicate PASSES 0 }
+      → Making g (g .n) (g .b) (g .m) c all plan (take (g .n) cols) (take (g .n) q) 0
+  order-start plan e =
+      make-start g (g .n) (g .b) (g .m) c (k .block-below) hm (take (g .n) cols) (take (g .n) q) plan (subst (Sound (g .n) (g .m)) (sym cols-front) sound)
+      (subst (λ (l : List ℕ). nonzero (g .m) l ≤ g .m) (sym cols-front)
+      (omega (arith, moved-nonzero (g .n) (g .b) (g .m) (k .block-below) hm rows rows-length regular, rank-le (phi (g .m) (columns (g .n) rows)) (g .m))))
+      (e ∙ sym (stored-none g))
+
+  pub order-end : planOf (record { geometry = g; passes = all }) ≡ planFor g rows c
+  unfolding planFor
+  order-end = ap (λ (l : List Pass). planOf (record { geometry = g; passes = l })) (sym order-all)

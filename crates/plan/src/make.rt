@@ -1,0 +1,77 @@
+// The plan for an order.
+ghost use mathlib.Core.Path.{_≡_};
+ghost use mathlib.Core.Bool.{true, false};
+ghost use mathlib.Core.List.{_++_};
+ghost use Prim.Native.Nat.{_≤_, _-_};
+ghost use lib.ListN.{take, replicate};
+ghost use Rattle.bank.specs.Limits.{ROWS};
+ghost use Rattle.bank.specs.Geometry.{inLimits};
+ghost use Rattle.algebra.specs.Matrix.{columns, singular};
+ghost use Rattle.planning.specs.Columns.{after};
+ghost use Rattle.planning.specs.Stored.{planFor};
+ghost use Rattle.plan.specs.Answer.{plannedFor};
+use crate::store::empty_plan;
+use crate::store::with_pass;
+use bank::Geometry;
+use bank::ROWS;
+use matrix::rows::columns;
+use matrix::rows::identity;
+use matrix::rows::product;
+use order::Order;
+use planner::operations::operate;
+use planner::rounds::is_busy;
+use planner::rounds::round;
+use planning::Plan;
+
+// The number of a planning call, and its plan: the empty plan where refused.
+pub struct Planned {
+    pub number: u8,
+    pub plan: Plan,
+}
+
+// The rows of A Q, from the columns of A and of Q; the places after them hold zero.
+fn rows_after(a: &[u32; ROWS], q: &[u32; ROWS], n: usize) -> [u32; ROWS]
+    requires { ⌜ n ≤ ROWS ⌝ }
+    ensures { λ r. ⌜ r ≡ columns n (after (take n (now (a .entry))) (take n (now (q .entry)))) ++ replicate (ROWS - n) 0 ⌝ }
+{
+    let both = product(q, a, n);
+    columns(&both, 0, n, n)
+}
+
+// The plan of the order A, c: a pass for each round, the first after P⁻¹, which is P, and then what is left.
+fn plan_for(g: Geometry, rows: [u32; ROWS], c: u32) -> Plan
+    requires { ⌜ (inLimits g ≡ true) × (singular (g .n) (take (g .n) rows) ≡ false) ⌝ }
+    ensures { λ r. ⌜ r ≡ planFor g (take (g .n) rows) c ⌝ }
+{
+    let n = g.n as usize;
+    let b = g.b as usize;
+    let m = g.m as usize;
+    let o = operate(&rows, n, m);
+    let mut plan = empty_plan();
+    plan.geometry = g;
+    let mut cols = o.cols;
+    let mut q = o.p;
+    let mut p: usize = 0;
+    while is_busy(&cols, n, m) {
+        let r = round(&cols, n, b, m);
+        plan = with_pass(plan, p, rows_after(&r.pass, &q, n), 0);
+        cols = r.cols;
+        q = identity(n);
+        p += 1;
+    }
+    with_pass(plan, p, rows_after(&cols, &q, n), c)
+}
+
+// The plan for an order that is taken, and a number that says why where one isn't.
+pub fn make_plan(order: Order) -> Planned
+    ensures { λ r. ⌜ r ≡ plannedFor order ⌝ }
+{
+    let number = order::judge(order);
+    if number != 0 {
+        let none = empty_plan();
+        return Planned { number, plan: none };
+    }
+    let rows = order.rows;
+    let plan = plan_for(order.geometry, rows, order.complement);
+    Planned { number, plan }
+}
