@@ -29,7 +29,7 @@ use Rattle.planning.proofs.Round.{Sound, next-nonzero, next-sound, nonzero}
 use Rattle.planning.proofs.Rounds.{Good, busy-some, complemented-more, round-good, rounds-go, rounds-good, rounds-length, rounds-stop}
 use Rattle.planning.proofs.Run.{first-length, moved-nonzero, moved-sound}
 use Rattle.planning.proofs.Step2.{after-length, operations-length, undone-operations}
-use Rattle.planner.proofs.Products.{product-after, take-front}
+use Rattle.planner.proofs.Products.{front-after, take-front}
 use Rattle.planner.proofs.Steps.{held-take}
 use Rattle.plan.specs.Store.{withPass}
 use Rattle.plan.proofs.Storing.{stored-more, stored-none}
@@ -39,7 +39,7 @@ pub rows-code : (room n : ℕ) (a q both r : List ℕ) → n ≤ room → length
     → r ≡ columns n (take (n - 0) (drop 0 both)) ++ replicate (room - n) 0 → r ≡ columns n (after (take n a) (take n q)) ++ replicate (room - n) 0
 rows-code room n a q both r h l e f =
     columns-whole room n both r f
-    ∙ ap (λ (x : List ℕ). columns n x ++ replicate (room - n) 0) (held-take room n both (product (take n q) (take n a)) h l e ∙ product-after n a (take n a) q (take n q) refl refl)
+    ∙ ap (λ (x : List ℕ). columns n x ++ replicate (room - n) 0) (held-take room n both (product (take n q) (take n a)) h l e ∙ front-after n a (take n a) q (take n q) refl refl)
 
 -- A times the identity is A
 pub after-identity : (n : ℕ) (a : List ℕ) → length a ≡ n → after a (identity n) ≡ a

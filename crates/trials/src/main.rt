@@ -1,10 +1,15 @@
 // Runs the trial orders and writes what the calls answer, a line for each; the file stdout has what they must be.
 mod say; // say.rt: a line of output
 mod orders; // orders.rt: geometry, form and addresses
+mod plans; // plans.rt: plans made, and plans judged
 
 fn main() {
     orders::geometries();
     orders::forms();
     orders::forwards();
     orders::backwards();
+    plans::made();
+    plans::judged();
+    plans::judged_more();
+    plans::spilling();
 }
