@@ -12,8 +12,6 @@ use Rattle.planning.specs.declared.Plan.{Plan}
 use Rattle.plan.specs.Store.{withPass}
 use Rattle.plan.proofs.store.with_pass.Statement.{statement}
 use Rattle.plan.proofs.store.with_pass.Tie as tie
-use Rattle.plan.proofs.store.with_pass.Reads as reads
-use Rattle.plan.proofs.store.with_pass.Lts as lts
 
 -- the plan with other rows
 abbrev withRows : Plan → List ℕ → Plan
