@@ -2,10 +2,10 @@
 use mathlib.Core.Path.{_∙_, _≡_, ap, ap₂, refl, subst, sym}
 use mathlib.Core.Bool.{false, true}
 use mathlib.Core.List.{List, [], _∷_, _++_, append-assoc, map}
-use Prim.Native.Nat.{_*_, _+_, _-_, _<_, _≤_, suc, zero, ℕ}
+use Prim.Native.Nat.{_*_, _+_, _-_, _<_, _≤_, ℕ}
 use native.Mathlib.Nat.{sub-zero}
 use native.Mathlib.Omega.{arith}
-use lib.ListN.{drop, getD, length, length-append, length-map, replicate, take}
+use lib.ListN.{drop, length, length-append, length-map, replicate, take}
 use lib.Seq.{ext-getD, length-take-le}
 use Rattle.bank.proofs.Limits.{Allowed, limits→allowed}
 use Rattle.bank.specs.Geometry.{inLimits}
@@ -18,7 +18,7 @@ use Rattle.algebra.proofs.Linear.{comb-one}
 use Rattle.algebra.proofs.Questions.{columns-whole}
 use Rattle.algebra.proofs.Rank.{rank-le}
 use Rattle.planning.specs.Columns.{after, phi}
-use Rattle.planning.specs.Making.{busy, dividedUp, erases, firstAfter, operations, passMatrices, passesFor, rounds, swaps}
+use Rattle.planning.specs.Making.{busy, erases, firstAfter, operations, passMatrices, passesFor, rounds, swaps}
 use Rattle.planning.specs.Pass.{Pass, complemented}
 use Rattle.planning.specs.Stored.{planFor, planOf}
 use Rattle.planning.specs.declared.Plan.{Plan}
