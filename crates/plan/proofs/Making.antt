@@ -2,10 +2,10 @@
 use mathlib.Core.Path.{_∙_, _≡_, ap, ap₂, refl, subst, sym}
 use mathlib.Core.Bool.{false, true}
 use mathlib.Core.List.{List, [], _∷_, _++_, append-assoc, map}
-use Prim.Native.Nat.{_*_, _+_, _-_, _<_, _≤_, suc, zero, ℕ}
+use Prim.Native.Nat.{_*_, _+_, _-_, _<_, _≤_, ℕ}
 use native.Mathlib.Nat.{sub-zero}
 use native.Mathlib.Omega.{arith}
-use lib.ListN.{drop, getD, length, length-append, length-map, replicate, take}
+use lib.ListN.{drop, length, length-append, length-map, replicate, take}
 use lib.Seq.{ext-getD, length-take-le}
 use Rattle.bank.proofs.Limits.{Allowed, limits→allowed}
 use Rattle.bank.specs.Geometry.{inLimits}
@@ -18,7 +18,7 @@ use Rattle.algebra.proofs.Linear.{comb-one}
 use Rattle.algebra.proofs.Questions.{columns-whole}
 use Rattle.algebra.proofs.Rank.{rank-le}
 use Rattle.planning.specs.Columns.{after, phi}
-use Rattle.planning.specs.Making.{busy, dividedUp, erases, firstAfter, operations, passMatrices, passesFor, rounds, swaps}
+use Rattle.planning.specs.Making.{busy, erases, firstAfter, operations, passMatrices, passesFor, rounds, swaps}
 use Rattle.planning.specs.Pass.{Pass, complemented}
 use Rattle.planning.specs.Stored.{planFor, planOf}
 use Rattle.planning.specs.declared.Plan.{Plan}
@@ -60,18 +60,12 @@ first-identity n b m (p ∷ ps) g = ap (λ (l : List ℕ). l ∷ ps) (after-iden
 abbrev pub ahead : ℕ → ℕ → ℕ → ℕ → List ℕ → List ℕ → ℕ → List Pass
 ahead k n b m cols q c = complemented (map (columns n) (firstAfter (rounds k n b m cols) q)) c
 
--- at the start they are all
-pub all-ahead : (g : Geometry) (rows : List ℕ) (c : ℕ) → g .m ≤ g .n
-    → passesFor g rows c ≡ ahead (g .m) (g .n) (g .b) (g .m) (after (columns (g .n) rows) (operations (g .n) (g .m) (columns (g .n) rows))) (operations (g .n) (g .m) (columns (g .n) rows)) c
-unfolding passesFor passMatrices
-all-ahead g rows c h =
-    let n = g .n in
-    let A = columns n rows in
-    let P = operations n (g .m) A in
-    ap (λ (q : List ℕ). ahead (g .m) n (g .b) (g .m) (after A P) q c) (undone-operations n (g .m) h A)
-
 -- p passes of all are stored, and the others are those of cols and Q
 pub record Making (g : Geometry) (n b m c : ℕ) (all : List Pass) (plan : Plan) (cols q : List ℕ) (p : ℕ) : Type 0 where
+  pub below : b < m
+  pub within : m < n
+  pub wide : n ≤ ROWS
+  pub few : length all ≤ PASSES
   pub done : List Pass
   pub counted : length done ≡ p
   pub stored : plan ≡ planOf (record { geometry = g; passes = done })
@@ -79,98 +73,104 @@ pub record Making (g : Geometry) (n b m c : ℕ) (all : List Pass) (plan : Plan)
   pub sound : Sound n m cols
   pub enough : nonzero m cols ≤ m - p
 
-module _ (g : Geometry) (n b m c : ℕ) (hb : b < m) (hm : m ≤ n) where
-  pub make-start : (cols q : List ℕ) (plan : Plan) → Sound n m cols → nonzero m cols ≤ m → plan ≡ planOf (record { geometry = g; passes = [] })
-      → Making g n b m c (ahead m n b m cols q c) plan cols q 0
-  make-start cols q plan k h e = record { done = []; counted = refl; stored = e; comes = ap (λ (i : ℕ). ahead i n b m cols q c) (sub-zero m); sound = k; enough = omega arith }
+module _ {g : Geometry} {n b m c : ℕ} {all : List Pass} {plan : Plan} {cols q : List ℕ} {p : ℕ} (k : Making g n b m c all plan cols q p) where
+  low : b ≤ m
+  low = omega (arith, k .below)
 
-  module _ (all : List Pass) (plan : Plan) (cols q : List ℕ) (p : ℕ) (k : Making g n b m c all plan cols q p) (few : length all ≤ PASSES) (wide : n ≤ ROWS) where
-    rounds-some : 0 < length (rounds (m - p) n b m cols)
-    rounds-some = omega (arith, rounds-length n b m (omega arith) hm hb (m - p) cols (k .sound) (k .enough))
+  high : m ≤ n
+  high = omega (arith, k .within)
 
-    -- there is room for one more
-    pub make-room : p < PASSES
-    make-room =
-        omega (
-          arith,
-          ap length (k .comes),
-          length-append (k .done) (ahead (m - p) n b m cols q c),
-          complemented-length (map (columns n) (firstAfter (rounds (m - p) n b m cols) q)) c,
-          length-map (firstAfter (rounds (m - p) n b m cols) q) (columns n),
-          first-length (rounds (m - p) n b m cols) q,
-          rounds-some,
-          k .counted,
-        )
+  rounds-some : 0 < length (rounds (m - p) n b m cols)
+  rounds-some = omega (arith, rounds-length n b m low high (k .below) (m - p) cols (k .sound) (k .enough))
 
-    put : (f rows : List ℕ) (e : ℕ) (plan' : Plan) → length f ≡ n → rows ≡ f ++ replicate (ROWS - n) 0 → plan' ≡ withPass plan p rows e
-        → plan' ≡ planOf (record { geometry = g; passes = k .done ++ (record { rows = f; complement = e } ∷ []) })
-    put f rows e plan' l h is =
-        is ∙ ap (λ (x : Plan). withPass x p rows e) (k .stored)
-        ∙ ap₂ (λ (i : ℕ) (r : List ℕ). withPass (planOf (record { geometry = g; passes = k .done })) i r e) (sym (k .counted)) h
-        ∙ sym (stored-more g (k .done) f e n (omega (arith, make-room, k .counted)) wide l)
+  -- there is room for one more
+  pub make-room : p < PASSES
+  make-room =
+      omega (
+        arith,
+        ap length (k .comes),
+        length-append (k .done) (ahead (m - p) n b m cols q c),
+        complemented-length (map (columns n) (firstAfter (rounds (m - p) n b m cols) q)) c,
+        length-map (firstAfter (rounds (m - p) n b m cols) q) (columns n),
+        first-length (rounds (m - p) n b m cols) q,
+        rounds-some,
+        k .counted,
+        k .few,
+      )
 
-    module _ (more : busy m cols ≡ true) where
-      -- a turn is left
-      pub make-goes : p < m
-      make-goes = omega (arith, busy-some m cols more, k .enough)
+  put : (f rows : List ℕ) (e : ℕ) (plan' : Plan) → length f ≡ n → rows ≡ f ++ replicate (ROWS - n) 0 → plan' ≡ withPass plan p rows e
+      → plan' ≡ planOf (record { geometry = g; passes = k .done ++ (record { rows = f; complement = e } ∷ []) })
+  put f rows e plan' l h is =
+      is ∙ ap (λ (x : Plan). withPass x p rows e) (k .stored)
+      ∙ ap₂ (λ (i : ℕ) (r : List ℕ). withPass (planOf (record { geometry = g; passes = k .done })) i r e) (sym (k .counted)) h
+      ∙ sym (stored-more g (k .done) f e n (omega (arith, make-room, k .counted)) (k .wide) l)
 
-      abbrev made : List ℕ
-      made = after (erases n b m (after cols (swaps n b m cols))) (swaps n b m cols)
+  module _ (more : busy m cols ≡ true) where
+    -- a turn is left
+    pub make-goes : p < m
+    make-goes = omega (arith, busy-some m cols more, k .enough)
 
-      abbrev next : List ℕ
-      next = after (after cols (swaps n b m cols)) (erases n b m (after cols (swaps n b m cols)))
+    abbrev made : List ℕ
+    made = after (erases n b m (after cols (swaps n b m cols))) (swaps n b m cols)
 
-      made-length : length made ≡ n
-      made-length = round-good n b m (omega arith) hm cols (k .sound) .long
+    abbrev next : List ℕ
+    next = after (after cols (swaps n b m cols)) (erases n b m (after cols (swaps n b m cols)))
 
-      still : Sound n m next
-      still = next-sound n b m (omega arith) hm cols (k .sound)
+    made-length : length made ≡ n
+    made-length = round-good n b m low high cols (k .sound) .long
 
-      fewer : nonzero m next ≤ m - (p + 1)
-      fewer = omega (arith, next-nonzero n b m (omega arith) hm cols (k .sound), busy-some m cols more, k .enough)
+    still : Sound n m next
+    still = next-sound n b m low high cols (k .sound)
 
-      comes-turn : record { rows = columns n (after made q); complement = 0 } ∷ ahead (m - (p + 1)) n b m next (identity n) c ≡ ahead (m - p) n b m cols q c
-      unfolding firstAfter
-      comes-turn =
-          ap (λ (l : List (List ℕ)). record { rows = columns n (after made q); complement = 0 } ∷ complemented (map (columns n) l) c)
-          (first-identity n b m (rounds (m - (p + 1)) n b m next) (rounds-good n b m (omega arith) hm hb (m - (p + 1)) next still fewer))
-          ∙ sym (complemented-more (columns n (after made q)) (map (columns n) (rounds (m - (p + 1)) n b m next)) c
-          (omega (arith, length-map (rounds (m - (p + 1)) n b m next) (columns n), rounds-length n b m (omega arith) hm hb (m - (p + 1)) next still fewer)))
-          ∙ ap (λ (l : List (List ℕ)). complemented (map (columns n) (firstAfter l q)) c) (sym (rounds-go (m - (p + 1)) n b m cols more))
-          ∙ ap (λ (i : ℕ). ahead i n b m cols q c) (omega (arith, make-goes))
+    fewer : nonzero m next ≤ m - (p + 1)
+    fewer = omega (arith, next-nonzero n b m low high cols (k .sound), busy-some m cols more, k .enough)
 
-      -- what the round stores, and leaves
-      pub make-turn : (pass left unit rows : List ℕ) (plan' : Plan)
-          → pass ≡ after (erases n b m (after cols (swaps n b m cols))) (swaps n b m cols) ++ replicate (ROWS - n) 0
-          → left ≡ after (after cols (swaps n b m cols)) (erases n b m (after cols (swaps n b m cols))) ++ replicate (ROWS - n) 0
-          → unit ≡ identity n ++ replicate (ROWS - n) 0
-          → rows ≡ columns n (after (take n pass) q) ++ replicate (ROWS - n) 0
-          → plan' ≡ withPass plan p rows 0
-          → Making g n b m c all plan' (take n left) (take n unit) (p + 1)
-      make-turn pass left unit rows plan' e1 e2 e3 e4 e5 =
-          let x : Pass = record { rows = columns n (after made q); complement = 0 } in
-          let pass-is : take n pass ≡ made = take-front n pass made (replicate (ROWS - n) 0) made-length e1 in
-          let left-is : take n left ≡ next = take-front n left next (replicate (ROWS - n) 0) (still .long) e2 in
-          let unit-is : take n unit ≡ identity n = take-front n unit (identity n) (replicate (ROWS - n) 0) (identity-length n) e3 in
-          record {
-            done = k .done ++ (x ∷ []);
-            counted = length-append (k .done) (x ∷ []) ∙ ap (λ (i : ℕ). i + 1) (k .counted);
-            stored = put (columns n (after made q)) rows 0 plan' (columns-length n (after made q)) (e4 ∙ ap (λ (l : List ℕ). columns n (after l q) ++ replicate (ROWS - n) 0) pass-is) e5;
-            comes =
-                ap₂ (λ (l u : List ℕ). (k .done ++ (x ∷ [])) ++ ahead (m - (p + 1)) n b m l u c) left-is unit-is
-                ∙ append-assoc (k .done) (x ∷ []) (ahead (m - (p + 1)) n b m next (identity n) c) ∙ ap (λ (l : List Pass). k .done ++ l) comes-turn ∙ k .comes;
-            sound = subst (Sound n m) (sym left-is) still;
-            enough = subst (λ (l : List ℕ). nonzero m l ≤ m - (p + 1)) (sym left-is) fewer;
-          }
+    comes-turn : record { rows = columns n (after made q); complement = 0 } ∷ ahead (m - (p + 1)) n b m next (identity n) c ≡ ahead (m - p) n b m cols q c
+    unfolding firstAfter
+    comes-turn =
+        ap (λ (l : List (List ℕ)). record { rows = columns n (after made q); complement = 0 } ∷ complemented (map (columns n) l) c)
+        (first-identity n b m (rounds (m - (p + 1)) n b m next) (rounds-good n b m low high (k .below) (m - (p + 1)) next still fewer))
+        ∙ sym (complemented-more (columns n (after made q)) (map (columns n) (rounds (m - (p + 1)) n b m next)) c
+        (omega (arith, length-map (rounds (m - (p + 1)) n b m next) (columns n), rounds-length n b m low high (k .below) (m - (p + 1)) next still fewer)))
+        ∙ ap (λ (l : List (List ℕ)). complemented (map (columns n) (firstAfter l q)) c) (sym (rounds-go (m - (p + 1)) n b m cols more))
+        ∙ ap (λ (i : ℕ). ahead i n b m cols q c) (omega (arith, make-goes))
 
-    module _ (none : busy m cols ≡ false) where
-      pub make-end : (rows : List ℕ) (plan' : Plan) → rows ≡ columns n (after cols q) ++ replicate (ROWS - n) 0 → plan' ≡ withPass plan p rows c
-          → plan' ≡ planOf (record { geometry = g; passes = all })
-      unfolding firstAfter complemented
-      make-end rows plan' e is =
-          put (columns n (after cols q)) rows c plan' (columns-length n (after cols q)) e is
-          ∙ ap (λ (l : List Pass). planOf (record { geometry = g; passes = l }))
-          (ap (λ (l : List (List ℕ)). k .done ++ complemented (map (columns n) (firstAfter l q)) c) (sym (rounds-stop (m - p) n b m cols none)) ∙ k .comes)
+    -- what the round stores, and leaves
+    pub make-turn : (pass left unit rows : List ℕ) (plan' : Plan)
+        → pass ≡ after (erases n b m (after cols (swaps n b m cols))) (swaps n b m cols) ++ replicate (ROWS - n) 0
+        → left ≡ after (after cols (swaps n b m cols)) (erases n b m (after cols (swaps n b m cols))) ++ replicate (ROWS - n) 0
+        → unit ≡ identity n ++ replicate (ROWS - n) 0
+        → rows ≡ columns n (after (take n pass) q) ++ replicate (ROWS - n) 0
+        → plan' ≡ withPass plan p rows 0
+        → Making g n b m c all plan' (take n left) (take n unit) (p + 1)
+    make-turn pass left unit rows plan' e1 e2 e3 e4 e5 =
+        let x : Pass = record { rows = columns n (after made q); complement = 0 } in
+        let pass-is : take n pass ≡ made = take-front n pass made (replicate (ROWS - n) 0) made-length e1 in
+        let left-is : take n left ≡ next = take-front n left next (replicate (ROWS - n) 0) (still .long) e2 in
+        let unit-is : take n unit ≡ identity n = take-front n unit (identity n) (replicate (ROWS - n) 0) (identity-length n) e3 in
+        record {
+          below = k .below;
+          within = k .within;
+          wide = k .wide;
+          few = k .few;
+          done = k .done ++ (x ∷ []);
+          counted = length-append (k .done) (x ∷ []) ∙ ap (λ (i : ℕ). i + 1) (k .counted);
+          stored = put (columns n (after made q)) rows 0 plan' (columns-length n (after made q)) (e4 ∙ ap (λ (l : List ℕ). columns n (after l q) ++ replicate (ROWS - n) 0) pass-is) e5;
+          comes =
+              ap₂ (λ (l u : List ℕ). (k .done ++ (x ∷ [])) ++ ahead (m - (p + 1)) n b m l u c) left-is unit-is
+              ∙ append-assoc (k .done) (x ∷ []) (ahead (m - (p + 1)) n b m next (identity n) c) ∙ ap (λ (l : List Pass). k .done ++ l) comes-turn ∙ k .comes;
+          sound = subst (Sound n m) (sym left-is) still;
+          enough = subst (λ (l : List ℕ). nonzero m l ≤ m - (p + 1)) (sym left-is) fewer;
+        }
+
+  module _ (none : busy m cols ≡ false) where
+    pub make-end : (rows : List ℕ) (plan' : Plan) → rows ≡ columns n (after cols q) ++ replicate (ROWS - n) 0 → plan' ≡ withPass plan p rows c
+        → plan' ≡ planOf (record { geometry = g; passes = all })
+    unfolding firstAfter complemented
+    make-end rows plan' e is =
+        put (columns n (after cols q)) rows c plan' (columns-length n (after cols q)) e is
+        ∙ ap (λ (l : List Pass). planOf (record { geometry = g; passes = l }))
+        (ap (λ (l : List (List ℕ)). k .done ++ complemented (map (columns n) (firstAfter l q)) c) (sym (rounds-stop (m - p) n b m cols none)) ∙ k .comes)
 
 -- ---- the order A, c, in the arrays that hold A P and P
 module _ (g : Geometry) (array : List ℕ) (c : ℕ) (inside : inLimits g ≡ true) (long : length array ≡ ROWS) (regular : singular (g .n) (take (g .n) array) ≡ false)
@@ -198,29 +198,40 @@ module _ (g : Geometry) (array : List ℕ) (c : ℕ) (inside : inLimits g ≡ tr
   rows-length : length rows ≡ g .n
   rows-length = length-take-le (g .n) array (omega (arith, k .n-high))
 
-  sound : Sound (g .n) (g .m) moved
-  sound = moved-sound (g .n) (g .b) (g .m) (k .block-below) hm rows rows-length regular
+  moved-is : Sound (g .n) (g .m) moved
+  moved-is = moved-sound (g .n) (g .b) (g .m) (k .block-below) hm rows rows-length regular
 
   cols-front : take (g .n) cols ≡ moved
-  cols-front = take-front (g .n) cols moved (replicate (ROWS - g .n) 0) (sound .long) cols-is
+  cols-front = take-front (g .n) cols moved (replicate (ROWS - g .n) 0) (moved-is .long) cols-is
 
   q-front : take (g .n) q ≡ P
   q-front = take-front (g .n) q P (replicate (ROWS - g .n) 0) (operations-length (g .n) (g .m) hm (columns (g .n) rows)) q-is
 
-  order-all : passesFor g rows c ≡ all
-  order-all = all-ahead g rows c hm ∙ sym (ap₂ (λ (l p : List ℕ). ahead (g .m) (g .n) (g .b) (g .m) l p c) cols-front q-front)
+  -- at the start all passes are to come
+  all-ahead : passesFor g rows c ≡ all
+  unfolding passesFor passMatrices
+  all-ahead =
+      ap (λ (l : List ℕ). ahead (g .m) (g .n) (g .b) (g .m) moved l c) (undone-operations (g .n) (g .m) hm (columns (g .n) rows))
+      ∙ sym (ap₂ (λ (l p : List ℕ). ahead (g .m) (g .n) (g .b) (g .m) l p c) cols-front q-front)
 
-  pub order-few : length all ≤ PASSES
-  order-few = subst (λ (l : List Pass). length l ≤ PASSES) order-all (made-few g rows c inside rows-length regular)
-
-  pub order-start : (plan : Plan) → plan ≡ record { geometry = g; count = 0; rows = replicate (PASSES * ROWS) 0; complements = replicate PASSES 0 }
+  pub make-start : (plan : Plan) → plan ≡ record { geometry = g; count = 0; rows = replicate (PASSES * ROWS) 0; complements = replicate PASSES 0 }
       → Making g (g .n) (g .b) (g .m) c all plan (take (g .n) cols) (take (g .n) q) 0
-  order-start plan e =
-      make-start g (g .n) (g .b) (g .m) c (k .block-below) hm (take (g .n) cols) (take (g .n) q) plan (subst (Sound (g .n) (g .m)) (sym cols-front) sound)
-      (subst (λ (l : List ℕ). nonzero (g .m) l ≤ g .m) (sym cols-front)
-      (omega (arith, moved-nonzero (g .n) (g .b) (g .m) (k .block-below) hm rows rows-length regular, rank-le (phi (g .m) (columns (g .n) rows)) (g .m))))
-      (e ∙ sym (stored-none g))
+  make-start plan e = record {
+    below = k .block-below;
+    within = k .memory-below;
+    wide = k .n-high;
+    few = subst (λ (l : List Pass). length l ≤ PASSES) all-ahead (made-few g rows c inside rows-length regular);
+    done = [];
+    counted = refl;
+    stored = e ∙ sym (stored-none g);
+    comes = ap (λ (i : ℕ). ahead i (g .n) (g .b) (g .m) (take (g .n) cols) (take (g .n) q) c) (sub-zero (g .m));
+    sound = subst (Sound (g .n) (g .m)) (sym cols-front) moved-is;
+    enough =
+        subst (λ (l : List ℕ). nonzero (g .m) l ≤ g .m - 0) (sym cols-front)
+        (omega (arith, moved-nonzero (g .n) (g .b) (g .m) (k .block-below) hm rows rows-length regular, rank-le (phi (g .m) (columns (g .n) rows)) (g .m)));
+  }
 
-  pub order-end : planOf (record { geometry = g; passes = all }) ≡ planFor g rows c
+  -- and where all are stored, the plan is made
+  pub make-whole : planOf (record { geometry = g; passes = all }) ≡ planFor g rows c
   unfolding planFor
-  order-end = ap (λ (l : List Pass). planOf (record { geometry = g; passes = l })) (sym order-all)
+  make-whole = ap (λ (l : List Pass). planOf (record { geometry = g; passes = l })) (sym all-ahead)

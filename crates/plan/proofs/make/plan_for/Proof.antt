@@ -1,24 +1,16 @@
-use mathlib.Core.Path.{_∙_, _≡_, ap, subst, sym}
-use mathlib.Core.List.{List}
-use Prim.Native.Nat.{_-_, _≤_, _<_, ℕ}
+-- `plan::make::plan_for` meets its contract: each turn stores one of the passes that are to come, and the last call what is left. Assumes nothing.
+use mathlib.Core.Path.{_∙_, _≡_, ap, sym}
+use Prim.Native.Nat.{_-_}
 use native.Mathlib.Omega.{arith}
-use lib.ListN.{replicate, take, length}
+use lib.ListN.{length, take}
 use borrow.Author.Needs.{needs}
+use Rattle.bank.specs.Limits.{ROWS}
 use Rattle.bank.specs.declared.Geometry.{Geometry}
 use Rattle.planning.specs.declared.Plan.{Plan}
 use Rattle.bank.proofs.Limits.{limits→allowed}
-use Rattle.plan.proofs.Making.{Making, ahead, make-end, make-goes, make-room, make-turn, order-end, order-few, order-start}
+use Rattle.plan.proofs.Making.{Making, ahead, make-end, make-goes, make-room, make-start, make-turn, make-whole}
 use Rattle.plan.proofs.make.plan_for.Statement.{statement}
 use Rattle.plan.proofs.make.plan_for.Tie as tie
-use Rattle.plan.proofs.make.plan_for.Reads as reads
-use Rattle.plan.proofs.make.plan_for.Lts as lts
-use Rattle.matrix.proofs.rows.identity.Reads as identity-reads
-use Rattle.plan.proofs.make.rows_after.Reads as rows-after-reads
-use Rattle.plan.proofs.store.empty_plan.Reads as empty-plan-reads
-use Rattle.plan.proofs.store.with_pass.Reads as with-pass-reads
-use Rattle.planner.proofs.operations.operate.Reads as operate-reads
-use Rattle.planner.proofs.rounds.is_busy.Reads as is-busy-reads
-use Rattle.planner.proofs.rounds.round.Reads as round-reads
 
 abbrev Inv-loop : tie.InvT-loop
 Inv-loop c n b m plan₀ cols₀ q₀ p₀ plan cols q p = Making (plan₀ .geometry) n b m c (ahead m n b m (take n cols₀) (take n q₀) c) plan (take n cols) (take n q) p
@@ -30,155 +22,78 @@ abbrev μ-loop : tie.MeasureT-loop
 abbrev onto : Geometry → Plan → Plan
 onto g plan = record { geometry = g; count = plan .count; rows = plan .rows; complements = plan .complements }
 
--- src/make.rt:46:13
 cast-n : tie.Need-cast-n Inv-loop μ-loop
 cast-n c = search needs
 
--- src/make.rt:47:13
 cast-b : tie.Need-cast-b Inv-loop μ-loop
 cast-b c = search needs
 
--- src/make.rt:48:13
 cast-m : tie.Need-cast-m Inv-loop μ-loop
 cast-m c = search needs
 
--- src/make.rt:49:9
 operate-requires : tie.Need-operate-requires Inv-loop μ-loop
-operate-requires c κs =
-    let s = c .before .before .before .before in
-    let a = s .args in
-    let g = a .g in
-    let al = limits→allowed g (s .pre .0) in
-    (al .memory-below, al .n-high)
+operate-requires c κs = let k = limits→allowed _ (c .before .before .before .before .pre .0) in (k .memory-below, k .n-high)
 
--- src/make.rt:50:9
 empty-plan-requires : tie.Need-empty-plan-requires Inv-loop μ-loop
 empty-plan-requires c κs = search needs
 
--- src/make.rt:55:5
 loop-holds : tie.Need-loop-holds Inv-loop μ-loop
 loop-holds c =
     let s = c .before .before .before .before .before .before .before .before in
     let a = s .args in
     let g = a .g in
-    let al = limits→allowed g (s .pre .0) in
     let o = c .before .before .before .operate in
     let e = c .before .before .empty-plan in
-    order-start g (a .t2) (a .c) (s .pre .0) (search needs) (s .pre .1) (o .result .cols) (o .result .p) (o .ensures .0) (o .ensures .1) (onto g (e .result)) (ap (onto g) (e .ensures))
+    make-start g (a .t2) (a .c) (s .pre .0) (search needs) (s .pre .1) (o .result .cols) (o .result .p) (o .ensures .0) (o .ensures .1) (onto g (e .result)) (ap (onto g) (e .ensures))
 
--- src/make.rt:55:11
 is-busy-requires : tie.Need-is-busy-requires Inv-loop μ-loop
-is-busy-requires c κs =
-    let s = c .before .before .before .before .before .before .before .before .before .before in
-    let a = s .args in
-    let g = a .g in
-    let al = limits→allowed g (s .pre .0) in
-    (al .memory-below, al .n-high)
+is-busy-requires c κs = let k = c .before .loop .inv in (k .within, k .wide)
 
--- src/make.rt:56:17
 round-requires : tie.Need-round-requires Inv-loop μ-loop
-round-requires c κs =
-    let s = c .before .before .before .before .before .before .before .before .before .before .before .before .before in
-    let a = s .args in
-    let g = a .g in
-    let al = limits→allowed g (s .pre .0) in
-    let l = c .before .before .before .before .loop in
-    (al .block-below, al .memory-below, al .n-high, l .inv .sound)
+round-requires c κs = let k = c .before .before .before .before .loop .inv in (k .below, k .within, k .wide, k .sound)
 
--- src/make.rt:57:35
 rows-after-requires : tie.Need-rows-after-requires Inv-loop μ-loop
-rows-after-requires c κs =
-    let s = c .before .before .before .before .before .before .before .before .before .before .before .before .before .before .before .before .before in
-    let a = s .args in
-    let g = a .g in
-    let al = limits→allowed g (s .pre .0) in
-    al .n-high
+rows-after-requires c κs = c .before .before .before .before .before .before .before .before .loop .inv .wide
 
--- src/make.rt:57:9
 with-pass-requires : tie.Need-with-pass-requires Inv-loop μ-loop
-with-pass-requires c κs =
-    let s = c .before .before .before .before .before .before .before .before .before .before .before .before .before .before .before .before .before .before in
-    let a = s .args in
-    let g = a .g in
-    let al = limits→allowed g (s .pre .0) in
-    let o = c .before .before .before .before .before .before .before .before .before .before .before .before .before .operate in
-    let l = c .before .before .before .before .before .before .before .before .before .loop in
-    make-room g (g .n) (g .b) (g .m) (a .c) (al .block-below) (omega (arith, al .memory-below)) (ahead (g .m) (g .n) (g .b) (g .m) (take (g .n) (o .result .cols)) (take (g .n) (o .result .p)) (a .c)) (l .plan) (take (g .n) (l .cols)) (take (g .n) (l .q)) (l .p) (l .inv) (order-few g (a .t2) (a .c) (s .pre .0) (search needs) (s .pre .1) (o .result .cols) (o .result .p) (o .ensures .0) (o .ensures .1)) (al .n-high)
+with-pass-requires c κs = make-room (c .before .before .before .before .before .before .before .before .before .loop .inv)
 
--- src/make.rt:59:13
 identity-requires : tie.Need-identity-requires Inv-loop μ-loop
-identity-requires c κs =
-    let s = c .before .before .before .before .before .before .before .before .before .before .before .before .before .before .before .before .before .before .before .before in
-    let a = s .args in
-    let g = a .g in
-    let al = limits→allowed g (s .pre .0) in
-    al .n-high
+identity-requires c κs = c .before .before .before .before .before .before .before .before .before .before .before .loop .inv .wide
 
--- src/make.rt:60:9
 add-p : tie.Need-add-p Inv-loop μ-loop
-add-p c =
-    let s = c .before .before .before .before .before .before .before .before .before .before .before .before .before .before .before .before .before .before .before .before .before in
-    let a = s .args in
-    let g = a .g in
-    let al = limits→allowed g (s .pre .0) in
-    let o = c .before .before .before .before .before .before .before .before .before .before .before .before .before .before .before .before .operate in
-    let l = c .before .before .before .before .before .before .before .before .before .before .before .before .loop in
-    omega (arith, make-room g (g .n) (g .b) (g .m) (a .c) (al .block-below) (omega (arith, al .memory-below)) (ahead (g .m) (g .n) (g .b) (g .m) (take (g .n) (o .result .cols)) (take (g .n) (o .result .p)) (a .c)) (l .plan) (take (g .n) (l .cols)) (take (g .n) (l .q)) (l .p) (l .inv) (order-few g (a .t2) (a .c) (s .pre .0) (search needs) (s .pre .1) (o .result .cols) (o .result .p) (o .ensures .0) (o .ensures .1)) (al .n-high))
+add-p c = omega (arith, make-room (c .before .before .before .before .before .before .before .before .before .before .before .before .loop .inv))
 
--- src/make.rt:55:5
 loop-less : tie.Need-loop-less Inv-loop μ-loop
 loop-less c =
-    let s = c .before .before .before .before .before .before .before .before .before .before .before .before .before .before .before .before .before .before .before .before .before in
-    let a = s .args in
-    let g = a .g in
-    let al = limits→allowed g (s .pre .0) in
-    let o = c .before .before .before .before .before .before .before .before .before .before .before .before .before .before .before .before .operate in
-    let l = c .before .before .before .before .before .before .before .before .before .before .before .before .loop in
-    omega (arith, make-goes g (g .n) (g .b) (g .m) (a .c) (al .block-below) (omega (arith, al .memory-below)) (ahead (g .m) (g .n) (g .b) (g .m) (take (g .n) (o .result .cols)) (take (g .n) (o .result .p)) (a .c)) (l .plan) (take (g .n) (l .cols)) (take (g .n) (l .q)) (l .p) (l .inv) (order-few g (a .t2) (a .c) (s .pre .0) (search needs) (s .pre .1) (o .result .cols) (o .result .p) (o .ensures .0) (o .ensures .1)) (al .n-high) (sym (c .before .before .before .before .before .before .before .before .before .before .is-busy .ensures) ∙ c .before .before .before .before .before .before .before .before .before .if1 .taken))
+    let t = c .before .before .before .before .before .before .before .before .before in
+    omega (arith, make-goes (t .before .before .before .loop .inv) (sym (t .before .is-busy .ensures) ∙ t .if1 .taken))
 
--- src/make.rt:55:5
 loop-again : tie.Need-loop-again Inv-loop μ-loop
 loop-again c =
-    let s = c .before .before .before .before .before .before .before .before .before .before .before .before .before .before .before .before .before .before .before .before .before in
-    let a = s .args in
-    let g = a .g in
-    let al = limits→allowed g (s .pre .0) in
-    let o = c .before .before .before .before .before .before .before .before .before .before .before .before .before .before .before .before .operate in
-    let l = c .before .before .before .before .before .before .before .before .before .before .before .before .loop in
     let r = c .before .before .before .before .before .before .before .round in
-    make-turn g (g .n) (g .b) (g .m) (a .c) (al .block-below) (omega (arith, al .memory-below)) (ahead (g .m) (g .n) (g .b) (g .m) (take (g .n) (o .result .cols)) (take (g .n) (o .result .p)) (a .c)) (l .plan) (take (g .n) (l .cols)) (take (g .n) (l .q)) (l .p) (l .inv) (order-few g (a .t2) (a .c) (s .pre .0) (search needs) (s .pre .1) (o .result .cols) (o .result .p) (o .ensures .0) (o .ensures .1)) (al .n-high) (sym (c .before .before .before .before .before .before .before .before .before .before .is-busy .ensures) ∙ c .before .before .before .before .before .before .before .before .before .if1 .taken) (r .result .pass) (r .result .cols) (c .identity .result) (c .before .before .before .rows-after .result) (c .before .before .with-pass .result) (r .ensures .0) (r .ensures .1) (c .identity .ensures) (c .before .before .before .rows-after .ensures) (c .before .before .with-pass .ensures)
+    let f = c .before .before .before .rows-after in
+    let w = c .before .before .with-pass in
+    let t = c .before .before .before .before .before .before .before .before .before in
+    make-turn (t .before .before .before .loop .inv) (sym (t .before .is-busy .ensures) ∙ t .if1 .taken) (r .result .pass) (r .result .cols) (c .identity .result) (f .result) (w .result) (r .ensures .0) (r .ensures .1) (c .identity .ensures) (f .ensures) (w .ensures)
 
--- src/make.rt:62:24
 rows-after-requires-2 : tie.Need-rows-after-requires-2 Inv-loop μ-loop
-rows-after-requires-2 c κs =
-    let s = c .before .before .before .before .before .before .before .before .before .before .before .before .before .before in
-    let a = s .args in
-    let g = a .g in
-    let al = limits→allowed g (s .pre .0) in
-    al .n-high
+rows-after-requires-2 c κs = c .before .before .before .before .before .loop .inv .wide
 
--- src/make.rt:62:5
 with-pass-requires-2 : tie.Need-with-pass-requires-2 Inv-loop μ-loop
-with-pass-requires-2 c κs =
-    let s = c .before .before .before .before .before .before .before .before .before .before .before .before .before .before .before in
-    let a = s .args in
-    let g = a .g in
-    let al = limits→allowed g (s .pre .0) in
-    let o = c .before .before .before .before .before .before .before .before .before .before .operate in
-    let l = c .before .before .before .before .before .before .loop in
-    make-room g (g .n) (g .b) (g .m) (a .c) (al .block-below) (omega (arith, al .memory-below)) (ahead (g .m) (g .n) (g .b) (g .m) (take (g .n) (o .result .cols)) (take (g .n) (o .result .p)) (a .c)) (l .plan) (take (g .n) (l .cols)) (take (g .n) (l .q)) (l .p) (l .inv) (order-few g (a .t2) (a .c) (s .pre .0) (search needs) (s .pre .1) (o .result .cols) (o .result .p) (o .ensures .0) (o .ensures .1)) (al .n-high)
+with-pass-requires-2 c κs = make-room (c .before .before .before .before .before .before .loop .inv)
 
--- src/make.rt:42:1
 returns : tie.Need-returns Inv-loop μ-loop
 returns c =
     let s = c .before .before .before .before .before .before .before .before .before .before .before .before .before .before .before .before in
     let a = s .args in
-    let g = a .g in
-    let al = limits→allowed g (s .pre .0) in
+    let long : length (a .t2) ≡ ROWS = search needs in
     let o = c .before .before .before .before .before .before .before .before .before .before .before .operate in
-    let l = c .before .before .before .before .before .before .before .loop in
-    make-end g (g .n) (g .b) (g .m) (a .c) (al .block-below) (omega (arith, al .memory-below)) (ahead (g .m) (g .n) (g .b) (g .m) (take (g .n) (o .result .cols)) (take (g .n) (o .result .p)) (a .c)) (l .plan) (take (g .n) (l .cols)) (take (g .n) (l .q)) (l .p) (l .inv) (order-few g (a .t2) (a .c) (s .pre .0) (search needs) (s .pre .1) (o .result .cols) (o .result .p) (o .ensures .0) (o .ensures .1)) (al .n-high) (sym (c .before .before .before .before .before .is-busy .ensures) ∙ c .before .before .before .before .if1 .left) (c .before .rows-after2 .result) (c .with-pass2 .result) (c .before .rows-after2 .ensures) (c .with-pass2 .ensures)
-    ∙ order-end g (a .t2) (a .c) (s .pre .0) (search needs) (s .pre .1) (o .result .cols) (o .result .p) (o .ensures .0) (o .ensures .1)
+    let f = c .before .rows-after2 in
+    let w = c .with-pass2 in
+    let t = c .before .before .before .before in
+    make-end (t .before .before .before .loop .inv) (sym (t .before .is-busy .ensures) ∙ t .if1 .left) (f .result) (w .result) (f .ensures) (w .ensures)
+    ∙ make-whole (a .g) (a .t2) (a .c) (s .pre .0) long (s .pre .1) (o .result .cols) (o .result .p) (o .ensures .0) (o .ensures .1)
 
 pub plan-for-spec : {M : Type 1} → statement M
 plan-for-spec =

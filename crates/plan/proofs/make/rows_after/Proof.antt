@@ -1,22 +1,16 @@
+-- `plan::make::rows_after` meets its contract: the product of the lists of columns, turned into rows. Assumes nothing.
 use borrow.Author.Needs.{needs}
 use Rattle.bank.specs.Limits.{ROWS}
 use Rattle.plan.proofs.Making.{rows-code}
 use Rattle.plan.proofs.make.rows_after.Statement.{statement}
 use Rattle.plan.proofs.make.rows_after.Tie as tie
-use Rattle.plan.proofs.make.rows_after.Reads as reads
-use Rattle.plan.proofs.make.rows_after.Lts as lts
-use Rattle.matrix.proofs.rows.columns.Reads as columns-reads
-use Rattle.matrix.proofs.rows.product.Reads as product-reads
 
--- src/make.rt:37:16
 product-requires : tie.Need-product-requires
 product-requires c κs = search needs
 
--- src/make.rt:38:5
 columns-requires : tie.Need-columns-requires
 columns-requires c κs = search needs
 
--- src/make.rt:33:1
 returns : tie.Need-returns
 returns c =
     let a = c .before .before .before .args in

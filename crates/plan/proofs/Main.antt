@@ -1,0 +1,63 @@
+-- What is proved of a planning call? The order is the one asked about; an array of rows has room for ROWS of them. Assumes nothing.
+use mathlib.Core.Path.{_∙_, _≡_, ap, refl, subst, sym}
+use mathlib.Core.Bool.{true}
+use Prim.Native.Nat.{_+_, _-_, _<_, ℕ}
+use lib.ListN.{length}
+use Rattle.bank.specs.Geometry.{records}
+use Rattle.bank.specs.Limits.{ROWS}
+use Rattle.algebra.specs.Matrix.{columns, rank, target}
+use Rattle.order.specs.Order.{judgement, matrixOf}
+use Rattle.order.specs.declared.Order.{Order}
+use Rattle.order.proofs.Accepted.{complement-below, judgement→accepted, matrix-length}
+use Rattle.planning.specs.Columns.{phi}
+use Rattle.planning.specs.Making.{dividedUp}
+use Rattle.planning.specs.Pass.{Route, performed}
+use Rattle.planning.specs.Running.{canRun, sound}
+use Rattle.planning.specs.Stored.{emptyPlan, planFor, planOf, routeOf}
+use Rattle.planning.specs.declared.Plan.{Plan}
+use Rattle.planning.proofs.Made.{made-can-run, made-length, made-performs, made-route, made-sound}
+use Rattle.plan.specs.Answer.{plannedFor}
+use Rattle.plan.specs.declared.make.Planned.{Planned}
+use Rattle.plan.proofs.Answered.{planned-refused, planned-taken}
+
+-- ---- an order that is taken
+-- a plan that makes it
+pub record Makes (order : Order) (plan : Plan) : Type 0 where
+  -- it is for the order's bank, and one that can run, from the start on
+  pub on-its-bank : plan .geometry ≡ order .geometry
+  pub sound-plan : sound plan ≡ true
+  pub can-start : canRun plan 0 ≡ true
+  -- its passes take every x to Ax xor c
+  pub performs : (x : ℕ) → x < records (order .geometry) → performed (routeOf plan .passes) x ≡ target (matrixOf order) (order .complement) x
+  -- there are rank φ divided by m - b, rounded up, and one more
+  pub passes :
+      plan .count
+      ≡ dividedUp (rank (phi (order .geometry .m) (columns (order .geometry .n) (matrixOf order))) (order .geometry .m)) (order .geometry .m - order .geometry .b) + 1
+
+-- the answer is 0 and such a plan
+module _ (order : Order) (room : length (order .rows) ≡ ROWS) (taken : judgement order ≡ 0) where
+  pub number-accepted : plannedFor order .number ≡ 0
+  number-accepted = ap (λ (a : Planned). a .number) (planned-taken order taken)
+
+  pub made-accepted : Makes order (plannedFor order .plan)
+  made-accepted = subst (λ (a : Planned). Makes order (a .plan)) (sym (planned-taken order taken)) makes
+    where
+      makes : Makes order (planFor (order .geometry) (matrixOf order) (order .complement))
+      makes =
+          let k = judgement→accepted order taken in
+          let g = order .geometry in
+          let A = matrixOf order in
+          let c = order .complement in
+          let long = matrix-length order (k .inside) room in
+          let below = complement-below order (k .form) in
+          record {
+            on-its-bank = unfold planFor planOf in refl;
+            sound-plan = made-sound g A c (k .inside) long (k .regular) below;
+            can-start = made-can-run g A c (k .inside) long (k .regular) below;
+            performs = λ x h. ap (λ (r : Route). performed (r .passes) x) (made-route g A c (k .inside) long (k .regular) below) ∙ made-performs g A c (k .inside) long (k .regular) x h;
+            passes = unfold planFor planOf in made-length g A c (k .inside) long (k .regular);
+          }
+
+-- ---- an order that is refused: its number, and zero everywhere
+pub made-refused : (order : Order) → (judgement order ≡ 0 → ⊥) → plannedFor order ≡ record { number = judgement order; plan = emptyPlan }
+made-refused = planned-refused
