@@ -18,6 +18,9 @@ use Rattle.planning.specs.Stored.{planFor, planOf, routeOf}
 use Rattle.planning.proofs.Runs.{Runs}
 use Rattle.planning.proofs.Made.{made-length, made-performs, made-runs, made-route}
 use Rattle.planning.proofs.Stored.{route-length}
+use Rattle.plan.specs.declared.make.Planned.{Planned}
+use Rattle.plan.specs.Answer.{plannedFor}
+use Rattle.plan.proofs.Answered.{planned-taken}
 use Rattle.moving.specs.Bytes.{recordOf}
 use Rattle.moving.specs.Step.{Buffers, areaOf, fits}
 use Rattle.moving.specs.Call.{fresh}
@@ -47,10 +50,9 @@ module _ (order : Order) (room : length (order .rows) ≡ ROWS) (taken : judgeme
       ap (λ (r : Route). performed (r .passes) x) route
       ∙ made-performs (order .geometry) (matrixOf order) (order .complement) (k .inside) (matrix-length order (k .inside) room) (k .regular) x h
 
-  -- for any bytes of the right lengths at the start, and any line of calls from a fresh state whose stray calls are refused
-  pub demand3 : (v : Buffers) → fits (order .geometry) v ≡ true → (cs : List Call) → straysRefused plan (fresh v) cs ≡ true → Demand3 order plan v cs
+  made : (v : Buffers) → fits (order .geometry) v ≡ true → (cs : List Call) → straysRefused plan (fresh v) cs ≡ true → Demand3 order plan v cs
   unfolding target total passSteps phases routeOf planFor planOf
-  demand3 v fitting cs strays =
+  made v fitting cs strays =
       let k = judgement→accepted order taken in
       record {
         within = any-line plan v cs strays .within;
@@ -61,3 +63,8 @@ module _ (order : Order) (room : length (order .rows) ≡ ROWS) (taken : judgeme
         steps = ap (λ (p : ℕ). 2 * records (order .geometry) / (block (order .geometry) * drives (order .geometry)) * p) (route-length plan);
         passes = le-of-eq (made-length (order .geometry) (matrixOf order) (order .complement) (k .inside) (matrix-length order (k .inside) room) (k .regular));
       }
+
+  -- for the plan that a planning call hands back, any bytes of the right lengths at the start, and any line of calls from a fresh state whose stray calls are refused
+  pub demand3 : (v : Buffers) → fits (order .geometry) v ≡ true → (cs : List Call) → straysRefused (plannedFor order .plan) (fresh v) cs ≡ true → Demand3 order (plannedFor order .plan) v cs
+  demand3 v fitting cs =
+      subst (λ (a : Planned). straysRefused (a .plan) (fresh v) cs ≡ true → Demand3 order (a .plan) v cs) (sym (planned-taken order taken)) (made v fitting cs)

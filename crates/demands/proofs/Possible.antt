@@ -23,15 +23,14 @@ use Rattle.algebra.proofs.Columns.{identity-at, identity-length}
 use Rattle.order.specs.declared.Order.{Order}
 use Rattle.order.specs.Order.{matrixOf, badForm, judgement, strayRow, strayComplement, spareRow}
 use Rattle.order.proofs.Judged.{regular-none}
-use Rattle.order.proofs.Accepted.{judgement→accepted, complement-below, matrix-length}
 use Rattle.planning.specs.declared.Plan.{Plan}
 use Rattle.planning.specs.Pass.{total}
-use Rattle.planning.specs.Stored.{planFor, planOf, routeOf}
-use Rattle.planning.specs.Running.{canRun}
-use Rattle.planning.proofs.Made.{made-can-run}
+use Rattle.planning.specs.Stored.{routeOf}
+use Rattle.plan.specs.Answer.{plannedFor}
+use Rattle.plan.proofs.Main.{made-accepted}
 use Rattle.moving.specs.Step.{Buffers, fits}
 use Rattle.moving.specs.Call.{fresh}
-use Rattle.moving.specs.Line.{line, straysRefused}
+use Rattle.moving.specs.Line.{Call, line, straysRefused}
 use Rattle.moving.proofs.Calls.{can→ready}
 use Rattle.moving.proofs.Lines.{inTurn, in-turn, no-strays}
 use Rattle.demands.specs.Possible.{stillOrder}
@@ -89,19 +88,21 @@ module _ (g : Geometry) (inside : inLimits g ≡ true) where
   pub still-taken : judgement (stillOrder g) ≡ 0
   still-taken = regular-none (stillOrder g) inside still-form (ap (singular (g .n)) still-matrix ∙ identity-regular (g .n))
 
--- for every order that is taken and bytes that fit, the steps in turn, each again as often as the line likes, reach the end; no call of theirs is stray
+-- the line that asks for each step of a plan in turn, each again as often as `more` says
+abbrev pub steadyLine : Plan → (ℕ → ℕ) → List Call
+steadyLine plan more = inTurn more (total (routeOf plan)) 0
+
+-- a line that reaches the end of a plan, with no stray call
+pub record Reaches (plan : Plan) (v : Buffers) (cs : List Call) : Type 0 where
+  pub ends : line plan (fresh v) cs .next ≡ total (routeOf plan)
+  pub strays : straysRefused plan (fresh v) cs ≡ true
+
+-- for every order that is taken and bytes that fit, the steps in turn reach the end
 module _ (order : Order) (room : length (order .rows) ≡ ROWS) (taken : judgement order ≡ 0) (v : Buffers) (fitting : fits (order .geometry) v ≡ true) (more : ℕ → ℕ) where
-  abbrev plan : Plan
-  plan = planFor (order .geometry) (matrixOf order) (order .complement)
-
-  can : canRun plan 0 ≡ true
-  can =
-      let k = judgement→accepted order taken in
-      made-can-run (order .geometry) (matrixOf order) (order .complement) (k .inside) (matrix-length order (k .inside) room) (k .regular) (complement-below order (k .form))
-
-  pub reaches-end : line plan (fresh v) (inTurn more (total (routeOf plan)) 0) .next ≡ total (routeOf plan)
-  unfolding planFor planOf
-  reaches-end = in-turn plan more v (can→ready plan (fresh v) can fitting)
-
-  pub without-strays : straysRefused plan (fresh v) (inTurn more (total (routeOf plan)) 0) ≡ true
-  without-strays = no-strays plan more (total (routeOf plan)) 0 (fresh v)
+  pub steady-reaches : Reaches (plannedFor order .plan) v (steadyLine (plannedFor order .plan) more)
+  steady-reaches =
+      let k = made-accepted order room taken in
+      let plan = plannedFor order .plan in record {
+        ends = in-turn plan more v (can→ready plan (fresh v) (k .can-start) (subst (λ (g : Geometry). fits g v ≡ true) (sym (k .on-its-bank)) fitting));
+        strays = no-strays plan more (total (routeOf plan)) 0 (fresh v);
+      }
