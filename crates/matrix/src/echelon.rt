@@ -4,7 +4,7 @@ ghost use Prim.Native.Nat.{_<_, _≤_};
 ghost use lib.Bits.{bitXor};
 ghost use lib.Count.{trailingZeros};
 ghost use Rattle.bank.specs.Limits.{ROWS};
-ghost use Rattle.algebra.specs.Elimination.{rest, used, grown, built};
+ghost use Rattle.algebra.specs.Elimination.{rest, used, noEntries, grown, built};
 ghost use Rattle.matrix.specs.Echelon.{echelonOf};
 use crate::vector::bit_of;
 use crate::vector::power;
@@ -23,6 +23,18 @@ pub struct Echelon {
 pub struct Reduced {
     pub left: u32,
     pub tag: u32,
+}
+
+// No entries yet.
+pub fn no_entries() -> Echelon
+    ensures { λ r. ⌜ echelonOf r ≡ noEntries ROWS ⌝ }
+{
+    Echelon {
+        vectors: [0; ROWS],
+        pivots: [0; ROWS],
+        tags: [0; ROWS],
+        count: 0,
+    }
 }
 
 // v reduced by the entries, and t with the tags of those that were added.
@@ -84,12 +96,7 @@ pub fn eliminate(cols: &[u32; ROWS], k: usize) -> Echelon
     requires { ⌜ k ≤ ROWS ⌝ }
     ensures { λ r. ⌜ echelonOf r ≡ built ROWS (now (cols .entry)) k ⌝ }
 {
-    let mut e = Echelon {
-        vectors: [0; ROWS],
-        pivots: [0; ROWS],
-        tags: [0; ROWS],
-        count: 0,
-    };
+    let mut e = no_entries();
     let mut j: usize = 0;
     while j < k {
         let column = cols[j];

@@ -6,9 +6,9 @@ ghost use Prim.Native.Nat.{_<_, _≤_, _-_, _^_};
 ghost use lib.ListN.{take, replicate};
 ghost use Rattle.bank.specs.Limits.{ROWS};
 ghost use Rattle.algebra.specs.Matrix.{singular, source, inverse, columns, spills};
-use crate::echelon::Echelon;
 use crate::echelon::eliminate;
 use crate::echelon::grow;
+use crate::echelon::no_entries;
 use crate::echelon::reduce;
 use crate::rows::apply_part;
 use crate::rows::columns;
@@ -60,12 +60,7 @@ pub fn spills(rows: &[u32; ROWS], n: usize, b: usize, m: usize) -> bool
     ensures { λ r. ⌜ r ≡ spills b m (take n (now (rows .entry))) ⌝ }
 {
     let cols = columns(rows, b, m, m);
-    let mut e = Echelon {
-        vectors: [0; ROWS],
-        pivots: [0; ROWS],
-        tags: [0; ROWS],
-        count: 0,
-    };
+    let mut e = no_entries();
     let mut j: usize = 0;
     while j < m {
         let column = cols[j];

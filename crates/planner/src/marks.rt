@@ -5,9 +5,9 @@ ghost use Rattle.bank.specs.Limits.{ROWS};
 ghost use Rattle.algebra.specs.Matrix.{marked, oneIf};
 ghost use Rattle.planner.specs.Marks.{maskOf, lowestOf, bare};
 use bank::ROWS;
-use matrix::echelon::Echelon;
 use matrix::echelon::grow;
 use matrix::echelon::lowest;
+use matrix::echelon::no_entries;
 use matrix::echelon::reduce;
 use matrix::vector::bit_of;
 use matrix::vector::power;
@@ -18,12 +18,7 @@ pub fn marks(cols: [u32; ROWS], k: usize) -> u32
     requires { ⌜ k ≤ ROWS ⌝ }
     ensures { λ r. ⌜ r ≡ maskOf (marked cols) k ⌝ }
 {
-    let mut e = Echelon {
-        vectors: [0; ROWS],
-        pivots: [0; ROWS],
-        tags: [0; ROWS],
-        count: 0,
-    };
+    let mut e = no_entries();
     let mut set: u32 = 0;
     let mut j: usize = 0;
     while j < k {

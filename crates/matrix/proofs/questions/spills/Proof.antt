@@ -26,11 +26,14 @@ abbrev μ-loop : tie.MeasureT-loop
 columns-requires : tie.Need-columns-requires Inv-loop μ-loop
 columns-requires c κs = search needs
 
+no-entries-requires : tie.Need-no-entries-requires Inv-loop μ-loop
+no-entries-requires c κs = search needs
+
 loop-holds : tie.Need-loop-holds Inv-loop μ-loop
 unfolding built
 loop-holds c =
-    let a = c .before .args in
-    (search needs, refl, through-zero (a .m) (take (a .m - a .b) (drop (a .b) (a .rows .now))) (take (a .n - a .m) (drop (a .m) (a .rows .now))))
+    let a = c .before .before .args in
+    (search needs, c .no-entries .ensures, through-zero (a .m) (take (a .m - a .b) (drop (a .b) (a .rows .now))) (take (a .n - a .m) (drop (a .m) (a .rows .now))))
 
 mul-column : tie.Need-mul-column Inv-loop μ-loop
 mul-column c = search needs
@@ -47,7 +50,7 @@ power-requires c κs = search needs
 reduce-requires : tie.Need-reduce-requires Inv-loop μ-loop
 reduce-requires c κs =
     let l = c .before .before .loop in
-    let few = built-count ROWS (c .before .before .before .columns .result) (l .j) (echelonOf (l .e)) (l .inv .1) in
+    let few = built-count ROWS (c .before .before .before .before .columns .result) (l .j) (echelonOf (l .e)) (l .inv .1) in
     omega arith
 
 apply-part-requires : tie.Need-apply-part-requires Inv-loop μ-loop
@@ -55,10 +58,10 @@ apply-part-requires c κs = search needs
 
 returns : tie.Need-returns Inv-loop μ-loop
 returns c =
-    let s = c .before .before .before .before .before .before .before .before in
+    let s = c .before .before .before .before .before .before .before .before .before in
     let a = s .args in
     let l = c .before .before .before .before .before .before .loop in
-    let k = c .before .before .before .before .before .before .before .columns in
+    let k = c .before .before .before .before .before .before .before .before .columns in
     let r = c .before .before .before .reduce in
     let mid = take (a .m - a .b) (drop (a .b) (a .rows .now)) in
     let e = l .e in
@@ -72,7 +75,7 @@ returns c =
 grow-requires : tie.Need-grow-requires Inv-loop μ-loop
 grow-requires c κs =
     let l = c .before .before .before .before .loop in
-    let few = built-count ROWS (c .before .before .before .before .before .columns .result) (l .j) (echelonOf (l .e)) (l .inv .1) in
+    let few = built-count ROWS (c .before .before .before .before .before .before .columns .result) (l .j) (echelonOf (l .e)) (l .inv .1) in
     (omega arith, search needs)
 
 add-j : tie.Need-add-j Inv-loop μ-loop
@@ -83,10 +86,10 @@ loop-less c = search needs
 
 loop-again : tie.Need-loop-again Inv-loop μ-loop
 loop-again c =
-    let s = c .before .before .before .before .before .before .before in
+    let s = c .before .before .before .before .before .before .before .before in
     let a = s .args in
     let l = c .before .before .before .before .before .loop in
-    let k = c .before .before .before .before .before .before .columns in
+    let k = c .before .before .before .before .before .before .before .columns in
     let r = c .before .before .reduce in
     let mid = take (a .m - a .b) (drop (a .b) (a .rows .now)) in
     let low = take (a .n - a .m) (drop (a .m) (a .rows .now)) in
@@ -105,7 +108,7 @@ loop-again c =
 
 returns-2 : tie.Need-returns-2 Inv-loop μ-loop
 returns-2 c =
-    let s = c .before .before .before in
+    let s = c .before .before .before .before in
     let a = s .args in
     let mid = take (a .m - a .b) (drop (a .b) (a .rows .now)) in
     let low = take (a .n - a .m) (drop (a .m) (a .rows .now)) in
@@ -119,6 +122,7 @@ spills-spec =
     Inv-loop
     μ-loop
     columns-requires
+    no-entries-requires
     loop-holds
     mul-column
     array-read-column

@@ -24,9 +24,12 @@ Inv-loop k cols e₀ set₀ j₀ e set j = (j ≤ k) × (echelonOf e ≡ built R
 abbrev μ-loop : tie.MeasureT-loop
 μ-loop k cols e₀ set₀ j₀ e set j = k - j
 
+no-entries-requires : tie.Need-no-entries-requires Inv-loop μ-loop
+no-entries-requires c κs = search needs
+
 loop-holds : tie.Need-loop-holds Inv-loop μ-loop
 unfolding built maskOf
-loop-holds c = (search needs, refl, refl)
+loop-holds c = (search needs, c .no-entries .ensures, refl)
 
 mul-column : tie.Need-mul-column Inv-loop μ-loop
 mul-column c = search needs
@@ -37,7 +40,7 @@ array-read-column c = search needs
 reduce-requires : tie.Need-reduce-requires Inv-loop μ-loop
 reduce-requires c κs =
     let l = c .before .loop in
-    let few = built-count ROWS (c .before .before .args .t1) (l .j) (echelonOf (l .e)) (l .inv .1) in
+    let few = built-count ROWS (c .before .before .before .args .t1) (l .j) (echelonOf (l .e)) (l .inv .1) in
     omega arith
 
 cast-power : tie.Need-cast-power Inv-loop μ-loop
@@ -55,7 +58,7 @@ cast-grow c = search needs
 grow-requires : tie.Need-grow-requires Inv-loop μ-loop
 grow-requires c κs =
     let l = c .before .before .before .before .loop in
-    let few = built-count ROWS (c .before .before .before .before .before .args .t1) (l .j) (echelonOf (l .e)) (l .inv .1) in
+    let few = built-count ROWS (c .before .before .before .before .before .before .args .t1) (l .j) (echelonOf (l .e)) (l .inv .1) in
     (omega arith, search needs)
 
 add-j : tie.Need-add-j Inv-loop μ-loop
@@ -66,7 +69,7 @@ loop-less c = search needs
 
 loop-again : tie.Need-loop-again Inv-loop μ-loop
 loop-again c =
-    let s = c .before .before .before .before .before .before in
+    let s = c .before .before .before .before .before .before .before in
     let l = c .before .before .before .before .before .loop in
     let cols = s .args .t1 in
     let fits : (i : ℕ) → getD cols i 0 < 2 ^ 32 = λ i. elem-fits w32 w32 cols (s .good .0 .0) i (s .good .0 .1 .1) tt .fits in
@@ -79,7 +82,7 @@ loop-again c =
 
 returns : tie.Need-returns Inv-loop μ-loop
 returns c =
-    let s = c .before .before in
+    let s = c .before .before .before in
     let l = c .before .loop in
     let all : l .j ≡ s .args .k = omega arith in
     l .inv .2 ∙ ap (maskOf (marked (s .args .t1))) all
@@ -90,6 +93,7 @@ marks-spec =
     (tie.spec
     Inv-loop
     μ-loop
+    no-entries-requires
     loop-holds
     mul-column
     array-read-column
