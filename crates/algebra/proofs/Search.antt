@@ -1,6 +1,6 @@
 -- What does a bounded search find? Assumes nothing.
 use mathlib.Core.Path.{_∙_, _≡_, refl, subst, sym}
-use mathlib.Core.Bool.{Bool, _&&_, false, false≢true, true, true≢false}
+use mathlib.Core.Bool.{Bool, _&&_, _||_, false, false≢true, true, true≢false}
 use mathlib.Core.Logic.{_⊎_, inl, inr, ⊎-elim}
 use Prim.Native.Nat.{_+_, _<_, _≤_, suc, zero, ℕ}
 use native.Mathlib.Nat.{add-suc, eq-or-lt-of-le, le-antisymm, le-of-suc-le-suc, le-refl}
@@ -93,6 +93,18 @@ and-l false b e = e
 pub and-r : (a b : Bool) → a && b ≡ true → b ≡ true
 and-r true b e = e
 and-r false b e = absurd (false≢true e)
+
+pub and-both : (a b : Bool) → a ≡ true → b ≡ true → a && b ≡ true
+and-both a b p q = rw (p, q)
+
+-- a disjunction that fails, part by part
+pub or-l : (a b : Bool) → a || b ≡ false → a ≡ false
+or-l true b e = absurd (true≢false e)
+or-l false b e = refl
+
+pub or-r : (a b : Bool) → a || b ≡ false → b ≡ false
+or-r true b e = absurd (true≢false e)
+or-r false b e = e
 
 -- below suc k: below k, or k itself
 pub below-suc : (P : ℕ → Type 0) (k : ℕ) → ((i : ℕ) → i < k → P i) → P k → (i : ℕ) → i < suc k → P i

@@ -3,22 +3,11 @@ use mathlib.Core.Path.{_≡_, refl, sym, ap, _∙_}
 use mathlib.Core.Bool.{Bool, true, false, _&&_, true≢false, false≢true}
 use Prim.Native.Nat.{ℕ, _+_, _≤_, _<_}
 use lib.Dec.{ltb, leb}
+use Rattle.algebra.proofs.Search.{and-l, and-r}
 use borrow.Author.Tests.{ltb-true, leb-true, lt-ltb, le-leb}
 use Rattle.bank.specs.Limits.{ROWS, BYTES}
 use Rattle.bank.specs.Geometry.{inLimits}
 use Rattle.bank.specs.declared.Geometry.{Geometry}
-
--- both parts of a conjunction
-pub and-l : (a b : Bool) → a && b ≡ true → a ≡ true
-and-l true b e = refl
-and-l false b e = e
-
-pub and-r : (a b : Bool) → a && b ≡ true → b ≡ true
-and-r true b e = e
-and-r false b e = absurd (false≢true e)
-
-pub and-both : (a b : Bool) → a ≡ true → b ≡ true → a && b ≡ true
-and-both a b p q = rw (p, q)
 
 -- the limits, one by one
 pub record Allowed (g : Geometry) : Type 0 where

@@ -6,7 +6,7 @@ use native.Mathlib.Nat.{add-assoc, add-suc, add-zero}
 use native.Mathlib.Omega.{arith}
 use borrow.Author.Tests.{eq-eqb, eqb-true, le-leb, leb-false, leb-true, lt-leb, ne-eqb}
 use lib.Dec.{eqb, leb}
-use Rattle.bank.proofs.Limits.{and-both, and-l, and-r}
+use Rattle.algebra.proofs.Search.{and-both, and-l, and-r}
 use Rattle.bank.specs.Checks.{refuse}
 use Rattle.moving.proofs.Again.{move-again}
 use Rattle.moving.proofs.Fits.{Fits, Fits→fits, fits→Fits, move-fits, moves-from-fits}

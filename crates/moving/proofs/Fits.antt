@@ -7,7 +7,7 @@ use borrow.Author.Needs.{needs}
 use borrow.Author.Tests.{eq-eqb, eqb-true}
 use lib.Dec.{eqb}
 use lib.ListN.{length}
-use Rattle.bank.proofs.Limits.{and-l, and-r}
+use Rattle.algebra.proofs.Search.{and-l, and-r}
 use Rattle.bank.specs.Geometry.{memory, records}
 use Rattle.bank.specs.declared.Geometry.{Geometry}
 use Rattle.moving.proofs.Bytes.{length-copied}

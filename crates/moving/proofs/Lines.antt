@@ -7,7 +7,7 @@ use native.Mathlib.Nat.{add-assoc, add-suc, add-zero}
 use native.Mathlib.Numerals.{add-one}
 use native.Mathlib.Omega.{arith}
 use lib.Dec.{eqb}
-use Rattle.bank.proofs.Limits.{and-l, and-r}
+use Rattle.algebra.proofs.Search.{and-l, and-r}
 use Rattle.moving.proofs.Again.{move-again}
 use Rattle.moving.proofs.Calls.{Ready, again-number, by-run, by-step, next-number, nine-means, ready-run, refused-count, refused-keeps, refused-run, run-again, run-count, run-none, run-one, run-ready, run-same, step-done, step-nine, step-ready}
 use Rattle.moving.proofs.Fits.{Fits, moves-fits}

@@ -13,19 +13,10 @@ use Rattle.bank.specs.Geometry.{inLimits, records}
 use Rattle.bank.proofs.Limits.{Allowed, limits→allowed}
 use Rattle.algebra.specs.Search.{some}
 use Rattle.algebra.specs.Matrix.{singular}
-use Rattle.algebra.proofs.Search.{none-elim}
+use Rattle.algebra.proofs.Search.{none-elim, or-l, or-r}
 use Rattle.order.specs.Order.{matrixOf, strayRow, strayComplement, spareRow, badForm, judgement}
 use Rattle.order.specs.declared.Order.{Order}
 use Rattle.order.proofs.Judged.{outside-limits, formless, singular-three, regular-none}
-
--- a disjunction that fails, part by part
-or-l : (a b : Bool) → a || b ≡ false → a ≡ false
-or-l true b e = absurd (true≢false e)
-or-l false b e = refl
-
-or-r : (a b : Bool) → a || b ≡ false → b ≡ false
-or-r true b e = absurd (true≢false e)
-or-r false b e = e
 
 -- an order that is taken, condition by condition
 pub record Accepted (order : Order) : Type 0 where

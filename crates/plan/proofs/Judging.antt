@@ -10,10 +10,11 @@ use lib.Dec.{eqb, leb}
 use lib.ListN.{getD, take, drop}
 use lib.Pow.{pow-add, pow-mono, pow-pos}
 use lib.Seq.{take-take}
+use Rattle.algebra.proofs.Search.{and-both, and-l, and-r}
 use Rattle.bank.specs.Limits.{ROWS, PASSES}
 use Rattle.bank.specs.Geometry.{inLimits, records}
 use Rattle.bank.specs.declared.Geometry.{Geometry}
-use Rattle.bank.proofs.Limits.{Allowed, and-both, and-l, and-r, limits→allowed}
+use Rattle.bank.proofs.Limits.{Allowed, limits→allowed}
 use Rattle.algebra.specs.Search.{some}
 use Rattle.algebra.specs.Matrix.{singular, spills}
 use Rattle.planning.specs.Pass.{Pass, passAt, passSteps, phases, total}

@@ -8,11 +8,11 @@ use native.Mathlib.Omega.{arith}
 use lib.Dec.{eqb, leb}
 use lib.ListN.{List·getD-eq-default, getD, length}
 use borrow.Author.Tests.{eq-eqb, le-leb, leb-false, leb-true, lt-leb, not-true}
-use Rattle.bank.proofs.Limits.{Allowed, allowed→limits, and-both, and-l, and-r, limits→allowed}
+use Rattle.bank.proofs.Limits.{Allowed, allowed→limits, limits→allowed}
 use Rattle.bank.specs.Geometry.{inLimits, records}
 use Rattle.bank.specs.Limits.{PASSES, ROWS}
 use Rattle.bank.specs.declared.Geometry.{Geometry}
-use Rattle.algebra.proofs.Search.{le-or-lt, none-elim, none-intro}
+use Rattle.algebra.proofs.Search.{and-both, and-l, and-r, le-or-lt, none-elim, none-intro}
 use Rattle.algebra.specs.Matrix.{singular, spills}
 use Rattle.algebra.specs.Search.{some}
 use Rattle.planning.proofs.Runs.{Runs}

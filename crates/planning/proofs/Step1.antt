@@ -12,11 +12,10 @@ use lib.Dec.{eqb}
 use lib.ListN.{getD, length, length-map}
 use lib.Bits.{bitXor, xor-comm, xor-lt, xor-self, xor-shr, xor-zero-r}
 use borrow.Author.Tests.{eq-eqb, eqb-false, eqb-true, ne-eqb, not-false, not-true}
-use Rattle.bank.proofs.Limits.{and-r}
 use Rattle.algebra.proofs.Digits.{bit-lt, bit-times, bit-xor, bit-zero, times-add, times-one, times-zero, xor-assoc, xor-cancel-r, xor-eq, xor-move, xor4}
 use Rattle.algebra.proofs.Linear.{comb-linear, comb-one, comb-xor, comb-zero}
 use Rattle.algebra.proofs.Pigeon.{covers}
-use Rattle.algebra.proofs.Search.{le-or-lt, some-elim, some-intro}
+use Rattle.algebra.proofs.Search.{and-r, le-or-lt, some-elim, some-intro}
 use Rattle.algebra.specs.Matrix.{marked}
 use Rattle.algebra.specs.Search.{listed, some, which}
 use Rattle.algebra.specs.Vector.{bit, comb, times}

@@ -12,10 +12,9 @@ use lib.ListN.{getD, length, length-map}
 use lib.Seq.{ext-getD}
 use lib.Bits.{bitXor, xor-comm, xor-lt, xor-self, xor-shr, xor-zero-r}
 use borrow.Author.Tests.{eq-eqb, eqb-true, le-ltb, lt-ltb, ne-eqb}
-use Rattle.bank.proofs.Limits.{and-l, and-r}
 use Rattle.algebra.proofs.Digits.{bit-zero, times-zero, xor-assoc, xor-cancel-r}
 use Rattle.algebra.proofs.Linear.{comb-one, comb-xor}
-use Rattle.algebra.proofs.Search.{found-lt, le-or-lt, least-holds, least-is, none-elim, none-intro, some-elim, some-intro}
+use Rattle.algebra.proofs.Search.{and-l, and-r, found-lt, le-or-lt, least-holds, least-is, none-elim, none-intro, some-elim, some-intro}
 use Rattle.algebra.specs.Matrix.{marked, rank}
 use Rattle.algebra.specs.Search.{firstOf, least, listed, some, which}
 use Rattle.algebra.specs.Vector.{bit, comb, times}
