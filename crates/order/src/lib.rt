@@ -19,7 +19,7 @@ pub struct Order {
 }
 
 // Whether the order isn't in good form, in a geometry inside the limits.
-pub fn bad_form(order: Order) -> bool
+fn bad_form(order: Order) -> bool
     requires { ⌜ order .geometry .n ≤ ROWS ⌝ }
     ensures { λ r. ⌜ r ≡ badForm order ⌝ }
 {
