@@ -1,8 +1,8 @@
 -- What do loops that copy rows leave, and what is a stored route with one pass more? Assumes nothing.
-use mathlib.Core.Path.{_≡_, refl, ap, ap₂, subst, sym, _∙_}
+use mathlib.Core.Path.{_≡_, ap, subst, sym, _∙_}
 use mathlib.Core.List.{List, [], _∷_, _++_}
-use mathlib.Core.Logic.{_⊎_, ⊎-elim}
-use Prim.Native.Nat.{ℕ, suc, _+_, _-_, _*_, _/_, _%_, _≤_, _<_}
+use mathlib.Core.Logic.{⊎-elim}
+use Prim.Native.Nat.{ℕ, _+_, _-_, _*_, _/_, _%_, _≤_, _<_}
 use native.Mathlib.Nat.{div-add-mod', eq-or-lt-of-le, mod-lt, mul-le-mul-right, suc-mul}
 use native.Mathlib.Omega.{arith}
 use borrow.Author.Count.{below-more}
@@ -14,7 +14,6 @@ use Rattle.bank.specs.declared.Geometry.{Geometry}
 use Rattle.algebra.proofs.Search.{le-or-lt}
 use Rattle.planning.specs.Pass.{Pass, passIn}
 use Rattle.planning.specs.Stored.{planOf, storedComplements, storedRows}
-use Rattle.planning.specs.declared.Plan.{Plan}
 use Rattle.planning.proofs.Acts.{listed-length}
 use Rattle.planning.proofs.Stored.{stored-complement, stored-length, stored-place, stored-row}
 use Rattle.plan.specs.Store.{withPass}

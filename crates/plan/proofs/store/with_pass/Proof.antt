@@ -1,5 +1,5 @@
 -- `plan::store::with_pass` meets its contract: the rows are pasted place by place. Assumes nothing.
-use mathlib.Core.Path.{_≡_, refl, ap, sym, _∙_}
+use mathlib.Core.Path.{_≡_, refl, ap, _∙_}
 use mathlib.Core.List.{List}
 use Prim.Native.Nat.{ℕ, _+_, _*_, _-_, _≤_, _<_}
 use native.Mathlib.Omega.{arith}
@@ -12,8 +12,6 @@ use Rattle.planning.specs.declared.Plan.{Plan}
 use Rattle.plan.specs.Store.{withPass}
 use Rattle.plan.proofs.store.with_pass.Statement.{statement}
 use Rattle.plan.proofs.store.with_pass.Tie as tie
-use Rattle.plan.proofs.store.with_pass.Reads as reads
-use Rattle.plan.proofs.store.with_pass.Lts as lts
 
 -- the plan with other rows
 abbrev withRows : Plan → List ℕ → Plan
