@@ -1,0 +1,3 @@
+-- The state, and what the calls for steps and runs promise.
+pub mod State
+pub mod Promise
