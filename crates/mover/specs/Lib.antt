@@ -1,3 +1,4 @@
 -- The state, and what the calls for steps and runs promise.
 pub mod State
 pub mod Promise
+pub mod Places

@@ -1,1 +1,97 @@
-// moves
+// One read, and one write: a block on each drive.
+ghost use mathlib.Core.Path.{_≡_};
+ghost use Prim.Native.Nat.{ℕ, _+_, _*_, _/_, _%_, _≤_, _<_};
+ghost use lib.Dec.{eqb};
+ghost use lib.ListN.{length};
+ghost use Rattle.moving.specs.Bytes.{copied, laid};
+ghost use Rattle.mover.specs.Places.{placeBy, inBlock, onDrives, placeIn, placeOn};
+use crate::bytes::copy_part;
+use crate::bytes::fill_block;
+use crate::bytes::flip;
+use bank::Block;
+
+// The block of size bytes goes to memory's index at.
+fn read_block(memory: &mut [u8], at: usize, area: &[u8], block: Block, size: usize)
+    requires { ⌜ (at + size ≤ length (now memory)) × (block .0 * size + size ≤ length (now area)) ⌝ }
+    ensures { λ _. ⌜ now (memory .exit) ≡ laid (now (memory .entry)) at size (now (area .entry)) (block .0 * size) ⌝ }
+{
+    let o = block.0 as usize * size;
+    let e = o + size;
+    copy_part(memory, at, &area[o..e]);
+}
+
+// A block for each drive, from the first on: they lie side by side in the area and in memory.
+fn read_drives(
+    memory: &mut [u8],
+    at: usize,
+    area: &[u8],
+    first: Block,
+    size: usize,
+    drives: usize,
+)
+    requires { ⌜ (at + drives * size ≤ length (now memory)) × (first .0 * size + drives * size ≤ length (now area)) × (0 < size) ⌝ }
+    ensures { λ _. ⌜ now (memory .exit) ≡ laid (now (memory .entry)) at (drives * size) (now (area .entry)) (first .0 * size) ⌝ }
+{
+    let mut q = 0;
+    let mut done = 0;
+    while q < drives {
+        let p = at + done;
+        let block = Block(first.0 + q as u64);
+        read_block(memory, p, area, block, size);
+        done += size;
+        q += 1;
+    }
+}
+
+// The block of count records is lent on, and filled from memory.
+fn write_block(
+    area: &mut [u8],
+    block: Block,
+    memory: &[u8],
+    columns: &[u32],
+    place: u32,
+    count: usize,
+    r: usize,
+)
+    requires { ⌜ (0 < count * r) × (block .0 * (count * r) + count * r ≤ length (now area)) ⌝ }
+    requires { ⌜ ((k : ℕ) → k < count → placeBy place (now columns) k * r + r ≤ length (now memory)) ⌝ }
+    ensures { λ _. ⌜ now (area .exit) ≡ copied (inBlock count (block .0)) (placeIn count place (now (columns .entry))) r (now (memory .entry)) (now (area .entry)) ⌝ }
+{
+    let n = count * r;
+    let o = block.0 as usize * n;
+    let e = o + n;
+    fill_block(&mut area[o..e], memory, columns, place, count, r);
+}
+
+// A block on each drive. On drive q it is the first with the blocks' columns that q picks, and its first record comes from
+// the place with the places' columns that q picks.
+fn write_drives(
+    area: &mut [u8],
+    first: Block,
+    blocks: &[u32],
+    memory: &[u8],
+    columns: &[u32],
+    place: u32,
+    places: &[u32],
+    drives: usize,
+    count: usize,
+    r: usize,
+)
+    requires { ⌜ (0 < count * r) × (0 < drives) ⌝ }
+    requires { ⌜ ((q : ℕ) → q < drives → placeBy (first .0) (now blocks) q % drives ≡ q) ⌝ }
+    requires { ⌜ ((q : ℕ) → q < drives → placeBy (first .0) (now blocks) q * (count * r) + count * r ≤ length (now area)) ⌝ }
+    requires { ⌜ ((q : ℕ) → q < drives → (k : ℕ) → k < count → placeBy (placeBy place (now places) q) (now columns) k * r + r ≤ length (now memory)) ⌝ }
+    ensures { λ _. ⌜ now (area .exit) ≡ copied (onDrives count drives (placeBy (first .0) (now (blocks .entry)))) (placeOn count drives (placeBy place (now (places .entry))) (now (columns .entry))) r (now (memory .entry)) (now (area .entry)) ⌝ }
+{
+    let mut q = 0;
+    let mut block = first;
+    let mut p = place;
+    while q < drives {
+        write_block(area, block, memory, columns, p, count, r);
+        p = p ^ flip(places, q);
+        let y = block.0 ^ flip(blocks, q) as u64;
+        let next = Block(y);
+        block = next;
+        q += 1;
+    }
+}

@@ -3,6 +3,9 @@ ghost use mathlib.Core.Path.{_≡_};
 ghost use Rattle.mover.specs.State.{freshState, advancedBy};
 use bank::Step;
 
+// The largest number that a step can have.
+const LAST: u64 = 18446744073709551615;
+
 pub struct State {
     pub next: Step,
 }
@@ -27,7 +30,7 @@ impl State {
         ensures { λ r. ⌜ r ≡ advancedBy self k ⌝ }
     {
         let next = self.next.0;
-        if 18446744073709551615 - next < k {
+        if LAST - next < k {
             return self;
         }
         let step = Step(next + k);

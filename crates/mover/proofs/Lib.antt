@@ -1,0 +1,4 @@
+-- The laws that belong to no one function.
+pub mod Parts
+pub mod Places
+pub mod Filled
