@@ -2,3 +2,4 @@
 pub mod Parts
 pub mod Places
 pub mod Filled
+pub mod Drives
