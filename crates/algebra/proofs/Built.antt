@@ -114,3 +114,30 @@ pub built-is : (room : ℕ) (cols : List ℕ) (n : ℕ) → n ≤ 32 → ((i : �
 unfolding built
 built-is room cols n hn hc zero hj = built-empty room cols n
 built-is room cols n hn hc (suc j) hj = built-grown room cols n hn hc j hj (built room cols j) (built-is room cols n hn hc j (le-trans (le-suc j) hj))
+
+-- ---- there are no more entries than columns
+choose-few : (x : Bool) (e : Echelon) (v t : ℕ) → choose x e (withEntry e v t) .count ≤ suc (e .count)
+choose-few true e v t = le-suc (e .count)
+choose-few false e v t = omega arith
+
+built-few : (room : ℕ) (cols : List ℕ) (j : ℕ) → built room cols j .count ≤ j
+unfolding built grown
+built-few room cols zero = zero-le
+built-few room cols (suc j) =
+    let e = built room cols j in
+    let v = rest (e .vectors) (e .pivots) (e .count) (getD cols j 0) in
+    omega (arith, built-few room cols j, choose-few (eqb v 0) e v (bitXor (2 ^ j) (used (e .vectors) (e .pivots) (e .tags) (e .count) (getD cols j 0))))
+
+pub built-count : (room : ℕ) (cols : List ℕ) (j : ℕ) (e : Echelon) → e ≡ built room cols j → e .count ≤ j
+built-count room cols j e q = subst (λ (x : Echelon). x .count ≤ j) (sym q) (built-few room cols j)
+
+-- ---- only the first k columns count
+pub built-same : (room : ℕ) (cols cols′ : List ℕ) (k : ℕ) → ((i : ℕ) → i < k → getD cols i 0 ≡ getD cols′ i 0) → built room cols k ≡ built room cols′ k
+unfolding built
+built-same room cols cols′ zero h = refl
+built-same room cols cols′ (suc k) h = ap₂ (λ (e : Echelon) (v : ℕ). grown e k v) (built-same room cols cols′ k (λ i l. h i (omega arith))) (h k (omega arith))
+
+-- ---- one column more
+pub built-next : (room : ℕ) (cols : List ℕ) (j : ℕ) (e r : Echelon) → e ≡ built room cols j → r ≡ grown e j (getD cols j 0) → r ≡ built room cols (j + 1)
+unfolding built
+built-next room cols j e r p q = q ∙ ap (λ (x : Echelon). grown x j (getD cols j 0)) p ∙ ap (built room cols) (sym (add-one j))

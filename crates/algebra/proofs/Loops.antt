@@ -1,25 +1,25 @@
 -- What do loops over rows and entries ask of the definitions? Assumes nothing.
-use mathlib.Core.Path.{_∙_, _≡_, ap, refl, sym}
+use mathlib.Core.Path.{_∙_, _≡_, ap, ap₂, refl, sym}
 use mathlib.Core.List.{List, [], _∷_}
-use Prim.Native.Nat.{_%_, _*_, _+_, _-_, _<_, _^_, _≤_, suc, zero, ℕ}
+use Prim.Native.Nat.{_%_, _*_, _+_, _-_, _/_, _<_, _^_, _≤_, suc, zero, ℕ}
 use native.Mathlib.Nat.{div-eq-of-lt, le-of-suc-le-suc, lt-of-lt-of-le, not-suc-le-zero}
 use native.Mathlib.Numerals.{add-one, sub-one}
 use native.Mathlib.Omega.{arith}
 use lib.Pow.{pow-mono}
-use lib.Seq.{getD-drop}
+use lib.Seq.{getD-drop, getD-take}
 use lib.Bits.{bitAnd, bitXor, xor-zero-r}
 use lib.Count.{ones}
 use lib.ListN.{drop, drop-of-length-le, getD, length-drop, length-take, set, take}
 use mathlib.Core.Bool.{Bool}
 use lib.Count.{trailingZeros}
 use borrow.Author.Tests.{eq-eqb, ne-eqb}
-use Rattle.algebra.proofs.Digits.{xor-assoc}
+use Rattle.algebra.proofs.Digits.{times-zero, xor-assoc}
 use Rattle.algebra.proofs.Linear.{apply-lt}
 use Rattle.algebra.specs.Elimination.{Echelon, choose, grown, rest, used, withEntry}
 use Rattle.algebra.specs.Matrix.{apply}
-use Rattle.algebra.specs.Vector.{bit, parity, times}
+use Rattle.algebra.specs.Vector.{bit, comb, parity, times}
 
--- no row yet
+-- ---- applying: no row yet
 pub apply-start : (rows : List ℕ) (n x : ℕ) → apply (drop n (take n rows)) x ≡ 0
 unfolding apply
 apply-start rows n x = ap (λ (l : List ℕ). apply l x) (drop-of-length-le (take n rows) {i = n} (simp length-take (omega arith)))
@@ -33,14 +33,19 @@ back [] (suc n) (suc i) x h = refl
 back (r ∷ rs) (suc n) zero x h = refl
 back (r ∷ rs) (suc n) (suc i) x h = back rs n i x (le-of-suc-le-suc h)
 
-pub apply-back : (rows : List ℕ) (n i x : ℕ) → 0 < i → i ≤ n
+apply-back : (rows : List ℕ) (n i x : ℕ) → 0 < i → i ≤ n
     → apply (drop i (take n rows)) x * 2 + parity (bitAnd (getD rows (i - 1) 0) x) ≡ apply (drop (i - 1) (take n rows)) x
 apply-back rows n zero x p h = absurd (not-suc-le-zero p)
 apply-back rows n (suc i) x p h = rw (sub-one (suc i)) (back rows n i x h)
 
--- a matrix of at most k rows gives numbers of k bits
-pub apply-fits : (k : ℕ) (rows : List ℕ) (n i x : ℕ) → n ≤ k → apply (drop i (take n rows)) x < 2 ^ k
-apply-fits k rows n i x h = lt-of-lt-of-le (apply-lt (drop i (take n rows)) x) (pow-mono (simp (length-drop, length-take) (omega arith)))
+-- no longer than k past place i: k bits
+pub apply-tight : (k : ℕ) (rows : List ℕ) (n i x : ℕ) → n ≤ k + i → apply (drop i (take n rows)) x < 2 ^ k
+apply-tight k rows n i x h = lt-of-lt-of-le (apply-lt (drop i (take n rows)) x) (pow-mono (simp (length-drop, length-take) (omega arith)))
+
+-- the rows from place f on
+pub part-back : (rows : List ℕ) (f n i x : ℕ) → 0 < i → i ≤ n
+    → apply (drop i (take n (drop f rows))) x * 2 + parity (bitAnd (getD rows (f + (i - 1)) 0) x) ≡ apply (drop (i - 1) (take n (drop f rows))) x
+part-back rows f n i x p h = rw (← getD-drop f rows (i - 1) 0) (apply-back (drop f rows) n i x p h)
 
 -- ---- reducing: one entry more
 pub rest-next : (ws qs : List ℕ) (i v : ℕ) → bitXor (rest ws qs i v) (times (bit (rest ws qs i v) (getD qs i 0)) (getD ws i 0)) ≡ rest ws qs (i + 1) v
@@ -94,11 +99,21 @@ grown-entry b j col l w t p f q r =
     ∙ sym (ap (λ (x : Bool). choose x b (withEntry b (rest (b .vectors) (b .pivots) (b .count) col) (bitXor (2 ^ j) (used (b .vectors) (b .pivots) (b .tags) (b .count) col))))
     (ne-eqb (rest (b .vectors) (b .pivots) (b .count) col) 0 (λ z. f (p ∙ z))))
 
--- no longer than k past place i: k bits
-pub apply-tight : (k : ℕ) (rows : List ℕ) (n i x : ℕ) → n ≤ k + i → apply (drop i (take n rows)) x < 2 ^ k
-apply-tight k rows n i x h = lt-of-lt-of-le (apply-lt (drop i (take n rows)) x) (pow-mono (simp (length-drop, length-take) (omega arith)))
+-- ---- summing: one vector more. Past the end of the list there is nothing to add
+comb-at : (vs : List ℕ) (j s : ℕ) → comb (drop j vs) s ≡ bitXor (times (s % 2) (getD vs j 0)) (comb (drop (suc j) vs) (s / 2))
+unfolding comb
+comb-at [] zero s = sym (ap (λ (k : ℕ). bitXor k 0) (times-zero (s % 2)))
+comb-at [] (suc j) s = sym (ap (λ (k : ℕ). bitXor k 0) (times-zero (s % 2)))
+comb-at (v ∷ vs) zero s = refl
+comb-at (v ∷ vs) (suc j) s = comb-at vs j s
 
--- the rows from place f on
-pub part-back : (rows : List ℕ) (f n i x : ℕ) → 0 < i → i ≤ n
-    → apply (drop i (take n (drop f rows))) x * 2 + parity (bitAnd (getD rows (f + (i - 1)) 0) x) ≡ apply (drop (i - 1) (take n (drop f rows))) x
-part-back rows f n i x p h = rw (← getD-drop f rows (i - 1) 0) (apply-back (drop f rows) n i x p h)
+pub comb-turn : (vs : List ℕ) (n j p s r : ℕ) → j < n → r ≡ times (s % 2) (getD vs j 0)
+    → bitXor (bitXor p r) (comb (drop (j + 1) (take n vs)) (s / 2)) ≡ bitXor p (comb (drop j (take n vs)) s)
+comb-turn vs n j p s r h e =
+    xor-assoc p r (comb (drop (j + 1) (take n vs)) (s / 2))
+    ∙ ap (bitXor p) (ap₂ (λ (x k : ℕ). bitXor x (comb (drop k (take n vs)) (s / 2))) (e ∙ ap (times (s % 2)) (sym (getD-take n vs j 0 h))) (add-one j) ∙ sym (comb-at (take n vs) j s))
+
+pub comb-end : (vs : List ℕ) (n j p s : ℕ) → n ≤ j → bitXor p (comb (drop j (take n vs)) s) ≡ p
+unfolding comb
+comb-end vs n j p s h =
+    ap (λ (l : List ℕ). bitXor p (comb l s)) (drop-of-length-le (take n vs) {i = j} (simp length-take (omega arith))) ∙ xor-zero-r p

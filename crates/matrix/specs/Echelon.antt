@@ -1,0 +1,6 @@
+-- Which elimination does the code's struct hold? Assumes nothing.
+use Rattle.algebra.specs.Elimination.{Echelon}
+use Rattle.matrix.specs.declared.echelon.Echelon.{Echelon as Entries}
+
+abbrev pub echelonOf : Entries → Echelon
+echelonOf e = record { vectors = e .vectors; pivots = e .pivots; tags = e .tags; count = e .count }

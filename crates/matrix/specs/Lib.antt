@@ -1,0 +1,2 @@
+-- The code's entries, as the definitions have them.
+pub mod Echelon

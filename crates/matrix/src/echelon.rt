@@ -1,0 +1,100 @@
+// The elimination: columns are reduced one after the other by the entries so far.
+ghost use mathlib.Core.Path.{_≡_};
+ghost use Prim.Native.Nat.{_<_, _≤_};
+ghost use lib.Bits.{bitXor};
+ghost use lib.Count.{trailingZeros};
+ghost use Rattle.bank.specs.Limits.{ROWS};
+ghost use Rattle.algebra.specs.Elimination.{rest, used, grown, built};
+ghost use Rattle.matrix.specs.Echelon.{echelonOf};
+use crate::vector::bit_of;
+use crate::vector::power;
+use crate::vector::times;
+use bank::ROWS;
+
+// The entries so far: a vector, one set bit of it, and the columns of which it is the sum.
+pub struct Echelon {
+    pub vectors: [u32; ROWS],
+    pub pivots: [u32; ROWS],
+    pub tags: [u32; ROWS],
+    pub count: usize,
+}
+
+// What is left of a vector, and the columns that were added to it.
+pub struct Reduced {
+    pub left: u32,
+    pub tag: u32,
+}
+
+// v reduced by the entries, and t with the tags of those that were added.
+pub fn reduce(e: Echelon, v: u32, t: u32) -> Reduced
+    requires { ⌜ e .count ≤ ROWS ⌝ }
+    ensures { λ r. ⌜ (r .left ≡ rest (e .vectors) (e .pivots) (e .count) v) × (r .tag ≡ bitXor t (used (e .vectors) (e .pivots) (e .tags) (e .count) v)) ⌝ }
+{
+    let vectors = e.vectors;
+    let pivots = e.pivots;
+    let tags = e.tags;
+    let count = e.count;
+    let mut u = v;
+    let mut s = t;
+    let mut i = 0;
+    while i < count {
+        let d = bit_of(u, pivots[i]);
+        u = u ^ times(d, vectors[i]);
+        s = s ^ times(d, tags[i]);
+        i += 1;
+    }
+    Reduced { left: u, tag: s }
+}
+
+// The lowest set bit of x.
+pub fn lowest(x: u32) -> u32
+    ensures { λ r. ⌜ r ≡ trailingZeros 32 x ⌝ }
+{
+    u32::trailing_zeros(x)
+}
+
+// The entries after column j, too.
+pub fn grow(e: Echelon, j: u32, column: u32) -> Echelon
+    requires { ⌜ (e .count < ROWS) × (j < 32) ⌝ }
+    ensures { λ r. ⌜ echelonOf r ≡ grown (echelonOf e) j column ⌝ }
+{
+    let r = reduce(e, column, power(j));
+    let left = r.left;
+    let tag = r.tag;
+    if left == 0 {
+        return e;
+    }
+    let mut vectors = e.vectors;
+    let mut pivots = e.pivots;
+    let mut tags = e.tags;
+    let count = e.count;
+    vectors[count] = left;
+    pivots[count] = lowest(left);
+    tags[count] = tag;
+    Echelon {
+        vectors,
+        pivots,
+        tags,
+        count: count + 1,
+    }
+}
+
+// The entries after the first k columns.
+pub fn eliminate(cols: &[u32; ROWS], k: usize) -> Echelon
+    requires { ⌜ k ≤ ROWS ⌝ }
+    ensures { λ r. ⌜ echelonOf r ≡ built ROWS (now (cols .entry)) k ⌝ }
+{
+    let mut e = Echelon {
+        vectors: [0; ROWS],
+        pivots: [0; ROWS],
+        tags: [0; ROWS],
+        count: 0,
+    };
+    let mut j: usize = 0;
+    while j < k {
+        let column = cols[j];
+        e = grow(e, j as u32, column);
+        j += 1;
+    }
+    e
+}
