@@ -1,6 +1,7 @@
 // The bank of drives: the limits, and the kinds of numbers that the calls exchange.
 // The limits stand here for the code and in specs/Limits.antt for the definitions, and nowhere else.
 ghost use mathlib.Core.Path.{_≡_};
+ghost use Prim.Native.Nat.{_<_, _^_};
 ghost use Rattle.bank.specs.Geometry.{inLimits};
 
 // The most bits that an address has, and so the most rows of a matrix.
@@ -59,4 +60,12 @@ pub fn in_limits(g: Geometry) -> bool
         return false;
     }
     true
+}
+
+// 2 to the k: N, B, D and M come from n, b, d and m so.
+pub fn power(k: u32) -> u64
+    requires { ⌜ k < 64 ⌝ }
+    ensures { λ r. ⌜ r ≡ 2 ^ k ⌝ }
+{
+    1u64 << k
 }

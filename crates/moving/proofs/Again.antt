@@ -1,19 +1,14 @@
 -- Why does a move made again change nothing? Assumes nothing.
-use mathlib.Core.Path.{_∙_, _≡_, ap, ap₂, refl, sym}
-use mathlib.Core.Bool.{Bool, cond, false, not, true}
-use mathlib.Core.List.{List, [], _∷_}
-use Prim.Native.Nat.{_+_, _-_, _<_, _≤_, min, suc, zero, zero-le, ℕ}
-use native.Mathlib.Nat.{add-assoc, add-suc, add-zero}
-use native.Mathlib.Numerals.{add-one}
-use native.Mathlib.Omega.{arith}
-use borrow.Author.Tests.{eq-eqb, eqb-false, eqb-true, le-leb, leb-false, leb-true, lt-leb, ne-eqb}
-use lib.Dec.{eqb, leb}
+use mathlib.Core.Path.{_∙_, _≡_, ap, ap₂, refl}
+use mathlib.Core.Bool.{Bool, false, not, true}
+use mathlib.Core.List.{List}
+use Prim.Native.Nat.{suc, zero, ℕ}
 use Rattle.bank.specs.declared.Geometry.{Geometry}
 use Rattle.moving.proofs.Bytes.{copied-again}
 use Rattle.moving.specs.Bytes.{copied}
 use Rattle.moving.specs.Number.{loadOf, passOf, phaseOf, turnOf}
-use Rattle.moving.specs.Step.{Buffers, areaBy, areaOf, byPhase, even, move, moves, readFrom, readMove, readTakes, withAreaBy, withMemory, writeFrom, writeMove, writeTakes}
-use Rattle.planning.specs.Pass.{Pass, Route, passAt, total}
+use Rattle.moving.specs.Step.{Buffers, areaBy, areaOf, byPhase, even, move, readFrom, readMove, readTakes, withAreaBy, withMemory, writeFrom, writeMove, writeTakes}
+use Rattle.planning.specs.Pass.{Pass, Route, passAt}
 
 -- ---- the areas
 
@@ -63,8 +58,8 @@ write-again g pass p load t v =
 
 by-phase : (k : ℕ) (f h : Buffers → Buffers) (v : Buffers) → f (f v) ≡ f v → h (h v) ≡ h v
     → byPhase k (f (byPhase k (f v) (h v))) (h (byPhase k (f v) (h v))) ≡ byPhase k (f v) (h v)
-by-phase zero f h v a b = a
-by-phase (suc k) f h v a b = b
+by-phase zero f h v a b = cc
+by-phase (suc k) f h v a b = cc
 
 pub move-again : (route : Route) (s : ℕ) (v : Buffers) → move route s (move route s v) ≡ move route s v
 unfolding move

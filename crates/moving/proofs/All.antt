@@ -1,9 +1,9 @@
--- What do all passes do? Assumes nothing.
+-- What does one pass do to the records, and what do all passes? Assumes nothing.
 use mathlib.Core.Path.{_∙_, _≡_, ap, ap₂, refl, subst, sym}
 use mathlib.Core.Bool.{Bool, false, not, true}
 use mathlib.Core.List.{List, [], _++_, _∷_}
-use Prim.Native.Nat.{_%_, _*_, _+_, _-_, _/_, _<_, _^_, _≤_, suc, zero, ℕ}
-use native.Mathlib.Nat.{le-refl, mul-comm, zero-add, zero-mul}
+use Prim.Native.Nat.{_%_, _*_, _+_, _<_, _^_, _≤_, suc, zero, ℕ}
+use native.Mathlib.Nat.{le-refl, mul-comm, zero-mul}
 use native.Mathlib.Omega.{arith}
 use borrow.Author.Tests.{eq-eqb, ne-eqb}
 use lib.Bits.{xor-lt}
@@ -12,7 +12,7 @@ use lib.Seq.{take-length, take-suc}
 use Rattle.algebra.proofs.Inverse.{source-lt}
 use Rattle.algebra.proofs.Linear.{apply-lt}
 use Rattle.algebra.proofs.Singular.{source-target}
-use Rattle.algebra.specs.Matrix.{apply, source, target}
+use Rattle.algebra.specs.Matrix.{apply, target}
 use Rattle.bank.proofs.Limits.{Allowed}
 use Rattle.bank.specs.Geometry.{memory, records}
 use Rattle.bank.specs.declared.Geometry.{Geometry}
@@ -22,8 +22,8 @@ use Rattle.moving.proofs.Pass.{PassDone, pass-done}
 use Rattle.moving.specs.Bytes.{recordOf}
 use Rattle.moving.specs.Step.{Buffers, areaBy, areaOf, even, moves, sourceOf}
 use Rattle.moving.proofs.Fits.{Fits}
-use Rattle.planning.proofs.Runs.{PassRuns, Runs}
-use Rattle.planning.specs.Pass.{Pass, Route, passAt, passSteps, performed, phases, total}
+use Rattle.planning.proofs.Runs.{PassRuns}
+use Rattle.planning.specs.Pass.{Pass, Route, passAt, passSteps, performed, total}
 
 even-suc : (p : ℕ) → even (suc p) ≡ not (even p)
 even-suc p =

@@ -1,6 +1,6 @@
--- How does code make the moves? Assumes nothing.
+-- How does code make the moves, run by run and block by block? Assumes nothing.
 use mathlib.Core.Path.{_∙_, _≡_, ap, ap₂, refl, subst, sym}
-use mathlib.Core.Logic.{_⊎_, ⊎-elim}
+use mathlib.Core.Logic.{⊎-elim}
 use mathlib.Core.Bool.{Bool, cond, false, true}
 use mathlib.Core.List.{List, map}
 use Prim.Native.Nat.{_%_, _*_, _+_, _-_, _/_, _<_, _^_, _≤_, suc, ℕ}
@@ -23,7 +23,7 @@ use Rattle.moving.proofs.Drives.{block-place, block-test, first-lt, tar
 use Rattle.moving.proofs.Low.{block-drive, on-load, place-block, place-drive, place-form, place-lt}
 use Rattle.moving.proofs.Numbers.{loads, pow-split, stripe-pos}
 use Rattle.moving.specs.Blocks.{blockStart, landing, placeIn, targetBlock}
-use Rattle.moving.specs.Bytes.{copied, each, laid, landed, within}
+use Rattle.moving.specs.Bytes.{copied, laid, landed, within}
 use Rattle.moving.specs.Step.{readFrom, readTakes, sourceOf, writeFrom, writeTakes}
 use Rattle.planning.proofs.Runs.{PassRuns}
 use Rattle.planning.specs.Pass.{Pass}
@@ -32,7 +32,7 @@ use Rattle.planning.specs.Pass.{Pass}
 share : (t n k : ℕ) → t < n → t * k + k ≤ n * k
 share t n k h = le-trans (le-of-eq (sym (suc-mul t k))) (mul-le-mul-right k h)
 
--- ---- a read is one moment of bytes
+-- ---- a read is one run of bytes
 
 -- the bytes of a stripe
 abbrev pub stripeBytes : Geometry → ℕ
@@ -51,7 +51,7 @@ module _ (g : Geometry) (ok : Allowed g) (load t : ℕ) (area mem : List ℕ) (l
   bytes-pos : 0 < stripeBytes g
   bytes-pos = omega (arith, digits-lt {q = 0} {m = g .r} {r = 0} {c = block g * drives g} (ok .r-low) (stripe-pos g ok))
 
-  -- what `read_stripe` of the byte moves ensures
+  -- a read, as code that copies the bytes of a stripe makes it
   pub read-laid : copied (readTakes g t) (readFrom g load) (g .r) area mem ≡ laid mem (t * stripeBytes g) (stripeBytes g) area (load * memory g * g .r + t * stripeBytes g)
   unfolding copied laid readTakes readFrom within
   read-laid =
@@ -91,7 +91,7 @@ module _ (g : Geometry) (ok : Allowed g) (pass : Pass) (runs : PassRuns g pass) 
       getD mem
       (bitXor (placeIn g pass load (blockStart g t (i / g .r / block g % drives g))) (comb (columns (g .b) (inverse (g .m) (take (g .m) (pass .rows)))) (i / g .r % block g)) * g .r + i % g .r) 0
 
-  -- what `write_step` of the byte moves ensures
+  -- a write, as code that fills a block on each drive makes it
   pub write-landed : copied (writeTakes g pass load t) (writeFrom g pass) (g .r) mem area ≡ landed (targetBlock g pass load t) blockByte (g .r) (block g) (drives g) area
   unfolding copied landed blockAt driveAt writeTakes
   write-landed =
@@ -150,7 +150,7 @@ module _ (g : Geometry) (ok : Allowed g) (pass : Pass) (runs : PassRuns g pass) 
       ∙ block-drive (g .n) (g .b) (g .m) (pass .rows) (pass .complement) hb hm (runs .rows-all) (runs .complement-within) (runs .regular) (runs .dry) (g .d) (ok .drives-fit) load (blockStart g t 0) q
       (first-lt g ok t 0 ht (pow-pos (g .d))) h
 
-  -- the two bases, from one inverse: f is where the load's first record goes
+  -- where the load's first record goes: the two bases come from it and one inverse
   abbrev pub firstGoes : ℕ
   firstGoes = target (pass .rows) (pass .complement) (load * memory g)
 

@@ -124,7 +124,7 @@ module _ (g : Geometry) (ok : Allowed g) where
       block→written (landing g pass load (blockStart g t q)) q hq refl .2,
     )
 
-    -- the same as tests, for code that writes block by block: the first premise of `landed-moved`
+    -- the same as tests, for code that writes block by block
     pub block-test : (y : ℕ) → y < records g → eqb (blockAt g y) (targetBlock g pass load t (driveAt g y)) ≡ writeTakes g pass load t y
     unfolding writeTakes
     block-test y hy = go (eqb (loadAt g (sourceOf g pass y)) load && eqb (stripeAt g y) t) refl
@@ -140,7 +140,7 @@ module _ (g : Geometry) (ok : Allowed g) where
             (λ q. let w = block→written y (driveAt g y) (drive-lt y) q in
             false≢true (sym e ∙ ap₂ _&&_ (eq-eqb (loadAt g (sourceOf g pass y)) load (w .0)) (eq-eqb (stripeAt g y) t (w .1))))
 
-    -- and the second: where record k of the block comes from, by the place of its first record and the first b columns of the inverse of the low rows
+    -- and where record k of the block comes from, by the place of its first record and the first b columns of the inverse of the low rows
     pub block-place : (y : ℕ) → y < records g → loadAt g (sourceOf g pass y) ≡ load → stripeAt g y ≡ t
         → bitXor (placeIn g pass load (blockStart g t (driveAt g y))) (comb (columns (g .b) (inverse (g .m) (take (g .m) (pass .rows)))) (y % block g)) ≡ writeFrom g pass y
     unfolding loadAt placeIn writeFrom

@@ -1,8 +1,9 @@
 -- When do buffers fit a geometry, and why do they still fit after a move? Assumes nothing.
-use mathlib.Core.Path.{_≡_, ap, refl, sym, _∙_}
+use mathlib.Core.Path.{_≡_, _∙_}
 use mathlib.Core.Bool.{Bool, true, false, not, _&&_}
 use mathlib.Core.List.{List}
 use Prim.Native.Nat.{ℕ, zero, suc, _+_, _*_}
+use borrow.Author.Needs.{needs}
 use borrow.Author.Tests.{eq-eqb, eqb-true}
 use lib.Dec.{eqb}
 use lib.ListN.{length}
@@ -13,7 +14,7 @@ use Rattle.moving.proofs.Bytes.{length-copied}
 use Rattle.moving.specs.Bytes.{copied}
 use Rattle.moving.specs.Call.{movesFrom}
 use Rattle.moving.specs.Number.{loadOf, passOf, phaseOf, turnOf}
-use Rattle.moving.specs.Step.{Buffers, areaBy, areaOf, byPhase, even, fits, move, readFrom, readMove, readTakes, withAreaBy, withMemory, writeFrom, writeMove, writeTakes}
+use Rattle.moving.specs.Step.{Buffers, areaBy, areaOf, byPhase, even, fits, move, moves, readFrom, readMove, readTakes, withAreaBy, withMemory, writeFrom, writeMove, writeTakes}
 use Rattle.planning.specs.Pass.{Pass, Route, passAt}
 
 -- the three lengths, one by one
@@ -55,8 +56,8 @@ module _ (g : Geometry) where
   with-area-fits false l v e k = record { area0-long = k .area0-long; area1-long = e ∙ k .area1-long; memory-long = k .memory-long }
 
   by-phase : (k : ℕ) (v w : Buffers) → Fits g v → Fits g w → Fits g (byPhase k v w)
-  by-phase zero v w a b = a
-  by-phase (suc k) v w a b = b
+  by-phase zero v w a b = search needs
+  by-phase (suc k) v w a b = search needs
 
   pub move-fits : (route : Route) (s : ℕ) (v : Buffers) → Fits g v → Fits g (move route s v)
   unfolding move readMove writeMove
@@ -83,6 +84,11 @@ module _ (g : Geometry) where
 
       written-long : length written ≡ length (areaBy other v)
       written-long = length-copied (writeTakes its pass (loadOf route s) (turnOf route s)) (writeFrom its pass) (its .r) (v .memory) (areaBy other v)
+
+  pub moves-fits : (route : Route) (k : ℕ) (v : Buffers) → Fits g v → Fits g (moves route k v)
+  unfolding moves
+  moves-fits route zero v f = f
+  moves-fits route (suc k) v f = move-fits route k (moves route k v) (moves-fits route k v f)
 
   pub moves-from-fits : (route : Route) (s k : ℕ) (v : Buffers) → Fits g v → Fits g (movesFrom route s k v)
   unfolding movesFrom

@@ -2,6 +2,8 @@ pub mod Bytes
 pub mod Fits
 pub mod Numbers
 pub mod Again
+pub mod Calls
+pub mod Lines
 pub mod Load
 pub mod Pass
 pub mod All
@@ -9,3 +11,4 @@ pub mod Low
 pub mod Drives
 pub mod Keeps
 pub mod Bridge
+pub mod Main

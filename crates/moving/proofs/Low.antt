@@ -9,7 +9,7 @@ use borrow.Author.Tests.{eq-eqb, eqb-true}
 use lib.Arith.{digits-lt}
 use lib.Bits.{bitXor, xor-comm, xor-lt, xor-mod, xor-self, xor-shifted, xor-shr, xor-zero-r}
 use lib.Dec.{eqb}
-use lib.Pow.{field, high, low, mod-mod-pow, pow-add, pow-mono, pow-pos, shl-lt, shr-shr}
+use lib.Pow.{field, high, mod-mod-pow, pow-add, pow-mono, pow-pos, shl-lt, shr-shr}
 use lib.ListN.{drop, length, length-take, take}
 use Rattle.algebra.proofs.Parts.{apply-take, apply-drop}
 use Rattle.algebra.proofs.Digits.{xor-assoc, xor-cancel-r, xor-eq, xor4}
@@ -213,7 +213,7 @@ module _ (n b m : ℕ) (rows : List ℕ) (c : ℕ) (hb : b ≤ m) (hm : m ≤ n)
       place-affine l w k hw (lt-of-lt-of-le hk (pow-mono hb))
       ∙ ap (bitXor (place l w)) (sym (inverse-apply m (take m rows) low-regular low-length k (lt-of-lt-of-le hk (pow-mono hb))) ∙ sym (apply-columns b (inverse m (take m rows)) k hk))
 
-  -- ---- for code: from the m columns E of the inverse of the low rows, and what A makes of them
+  -- ---- for code: from the m columns E of the inverse of the low rows
 
   low-shift : (k w : ℕ) → k < 2 ^ m → w < 2 ^ m → source m (take m rows) k w ≡ source m (take m rows) 0 (bitXor w k)
   low-shift k w hk hw =
@@ -240,12 +240,6 @@ module _ (n b m : ℕ) (rows : List ℕ) (c : ℕ) (hb : b ≤ m) (hm : m ≤ n)
     where
       small : bitXor w (first l % 2 ^ m) < 2 ^ m
       small = xor-lt m w (first l % 2 ^ m) hw (mod-lt (first l) (pow-pos m))
-
-  pub land-form : (l w : ℕ) → w < 2 ^ m → land l w ≡ bitXor (comb (map (apply rows) E) (bitXor w (first l % 2 ^ m))) (first l)
-  land-form l w hw =
-      on-load l (place l w) (place-lt l w hw)
-      ∙ ap (λ (x : ℕ). bitXor (apply rows x) (first l)) (place-form l w hw)
-      ∙ ap (λ (x : ℕ). bitXor x (first l)) (linear-comb (apply rows) (apply-linear rows) E (bitXor w (first l % 2 ^ m)))
 
   -- ---- affine in the drive: columns b..b+d-1 of the inverse
 

@@ -2,7 +2,7 @@
 use mathlib.Core.Path.{_∙_, _≡_, ap, ap₂, refl, subst, sym}
 use mathlib.Core.Bool.{Bool, not}
 use mathlib.Core.List.{List}
-use Prim.Native.Nat.{_*_, _+_, _-_, _<_, _≤_, suc, zero, ℕ}
+use Prim.Native.Nat.{_*_, _+_, _<_, _≤_, suc, zero, ℕ}
 use native.Mathlib.Nat.{add-suc, add-zero, le-refl, not-suc-le-zero, suc-mul, zero-mul}
 use native.Mathlib.Omega.{arith}
 use borrow.Author.Tests.{le-ltb, lt-ltb}

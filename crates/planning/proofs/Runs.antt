@@ -1,15 +1,23 @@
--- What does a route that can run give a proof? Assumes nothing.
+-- What does a proof get of a matrix that planning takes, and of a route that can run? Assumes nothing.
 use mathlib.Core.Path.{_≡_}
 use mathlib.Core.Bool.{false}
 use mathlib.Core.List.{List}
-use Prim.Native.Nat.{ℕ, _^_, _≤_, _<_}
-use lib.ListN.{length, getD}
+use Prim.Native.Nat.{_<_, _^_, _≤_, ℕ}
+use lib.ListN.{getD, length}
+use Rattle.bank.proofs.Limits.{Allowed}
+use Rattle.bank.specs.Geometry.{records}
 use Rattle.bank.specs.Limits.{PASSES}
 use Rattle.bank.specs.declared.Geometry.{Geometry}
-use Rattle.bank.specs.Geometry.{records}
-use Rattle.bank.proofs.Limits.{Allowed}
 use Rattle.algebra.specs.Matrix.{singular, spills}
 use Rattle.planning.specs.Pass.{Pass, Route, passAt}
+
+-- a matrix that planning takes: the geometry so far as the passes need it, n rows below 2 ^ n, nonsingular
+pub record Taken (n b m : ℕ) (rows : List ℕ) : Type 0 where
+  pub below : b < m
+  pub within : m < n
+  pub count : length rows ≡ n
+  pub small : (i : ℕ) → i < n → getD rows i 0 < 2 ^ n
+  pub regular : singular n rows ≡ false
 
 -- the matrix of a pass that can run
 pub record MatrixRuns (n b m : ℕ) (rows : List ℕ) : Type 0 where

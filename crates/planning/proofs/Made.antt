@@ -1,0 +1,130 @@
+-- What is true of the plan of an order that planning takes? Assumes nothing.
+use mathlib.Core.Path.{_∙_, _≡_, ap, refl, subst, sym}
+use mathlib.Core.Bool.{false, true}
+use mathlib.Core.List.{List, [], _∷_}
+use Prim.Native.Nat.{_+_, _-_, _<_, _^_, _≤_, suc, zero, zero-le, ℕ}
+use native.Mathlib.Omega.{arith}
+use lib.Pow.{pow-pos}
+use lib.ListN.{getD, length}
+use Rattle.bank.proofs.Limits.{Allowed, limits→allowed}
+use Rattle.bank.specs.Geometry.{inLimits}
+use Rattle.bank.specs.Limits.{PASSES}
+use Rattle.bank.specs.declared.Geometry.{Geometry}
+use Rattle.algebra.specs.Matrix.{columns, rank, singular, spills, target}
+use Rattle.planning.proofs.Acts.{all-at, at-all}
+use Rattle.planning.proofs.Bound.{passes-bound}
+use Rattle.planning.proofs.Run.{plan-half, plan-length, plan-moves, plan-none, plan-runs}
+use Rattle.planning.proofs.Running.{runs-back, runs→sound, sound-allowed, sound-dry, sound→can-run, sound→checked}
+use Rattle.planning.proofs.Runs.{MatrixRuns, Runs}
+use Rattle.planning.proofs.Stored.{route-length}
+use Rattle.planning.specs.Columns.{phi}
+use Rattle.planning.specs.Making.{dividedUp, passMatrices, passesFor}
+use Rattle.planning.specs.Pass.{complemented, passIn, performed}
+use Rattle.planning.specs.Running.{canRun, sound}
+use Rattle.planning.specs.Stored.{planFor, routeOf}
+use Rattle.planning.specs.declared.Plan.{Plan}
+
+-- ---- complements
+pub complemented-length : (fs : List (List ℕ)) (c : ℕ) → length (complemented fs c) ≡ length fs
+unfolding complemented
+complemented-length [] c = refl
+complemented-length (f ∷ []) c = refl
+complemented-length (f ∷ g ∷ fs) c = ap suc (complemented-length (g ∷ fs) c)
+
+pub complemented-rows : (fs : List (List ℕ)) (c p : ℕ) → passIn (complemented fs c) p .rows ≡ getD fs p []
+unfolding complemented
+complemented-rows [] c p = refl
+complemented-rows (f ∷ []) c zero = refl
+complemented-rows (f ∷ []) c (suc p) = refl
+complemented-rows (f ∷ g ∷ fs) c zero = refl
+complemented-rows (f ∷ g ∷ fs) c (suc p) = complemented-rows (g ∷ fs) c p
+
+pub complemented-lt : (fs : List (List ℕ)) (c n p : ℕ) → c < 2 ^ n → passIn (complemented fs c) p .complement < 2 ^ n
+unfolding complemented
+complemented-lt [] c n p h = pow-pos n
+complemented-lt (f ∷ []) c n zero h = h
+complemented-lt (f ∷ []) c n (suc p) h = pow-pos n
+complemented-lt (f ∷ g ∷ fs) c n zero h = pow-pos n
+complemented-lt (f ∷ g ∷ fs) c n (suc p) h = complemented-lt (g ∷ fs) c n p h
+
+module _ (g : Geometry) (rows : List ℕ) (c : ℕ) (hg : inLimits g ≡ true) (hr : length rows ≡ g .n) (hs : singular (g .n) rows ≡ false) where
+  a : Allowed g
+  a = limits→allowed g hg
+
+  hm : g .m ≤ g .n
+  hm = omega (arith, a .memory-below)
+
+  abbrev matrices : List (List ℕ)
+  matrices = passMatrices (g .n) (g .b) (g .m) rows
+
+  -- rounds number rank φ divided by m - b, rounded up; passes are one more
+  pub made-length : length (passesFor g rows c) ≡ dividedUp (rank (phi (g .m) (columns (g .n) rows)) (g .m)) (g .m - g .b) + 1
+  unfolding passesFor
+  made-length = complemented-length matrices c ∙ plan-length (g .n) (g .b) (g .m) (a .block-below) hm rows hr hs ∙ omega arith
+
+  made-some : 1 ≤ length (passesFor g rows c)
+  made-some = omega (arith, made-length)
+
+  -- they fit into a plan
+  pub made-few : length (passesFor g rows c) ≤ PASSES
+  unfolding passesFor
+  made-few = omega (arith, complemented-length matrices c, plan-half (g .n) (g .b) (g .m) (a .block-below) hm rows hr hs, a .n-high)
+
+  -- with no rounds the only pass is the order itself
+  pub made-none : ((i : ℕ) → i < g .n → getD rows i 0 < 2 ^ g .n) → rank (phi (g .m) (columns (g .n) rows)) (g .m) ≡ 0 → passesFor g rows c ≡ record { rows = rows; complement = c } ∷ []
+  unfolding passesFor complemented
+  made-none small e = ap (λ (fs : List (List ℕ)). complemented fs c) (plan-none (g .n) (g .b) (g .m) (a .block-below) hm rows hr small hs e)
+
+  -- the passes take every x to Ax xor c
+  pub made-performs : (x : ℕ) → x < 2 ^ g .n → performed (passesFor g rows c) x ≡ target rows c x
+  unfolding passesFor
+  made-performs = plan-moves (g .n) (g .b) (g .m) (a .block-below) hm rows hr hs c
+
+  module _ (hc : c < 2 ^ g .n) where
+    -- the route can run
+    pub made-runs : Runs (record { geometry = g; passes = passesFor g rows c })
+    unfolding passesFor
+    made-runs = record {
+      allowed = a;
+      some-pass = made-some;
+      few-passes = made-few;
+      each-runs = λ p h.
+          let k : MatrixRuns (g .n) (g .b) (g .m) (passIn (complemented matrices c) p .rows)
+          = subst (MatrixRuns (g .n) (g .b) (g .m)) (sym (complemented-rows matrices c p))
+          (all-at [] (MatrixRuns (g .n) (g .b) (g .m)) matrices (plan-runs (g .n) (g .b) (g .m) (a .block-below) hm rows hr hs) p (subst (λ (l : ℕ). p < l) (complemented-length matrices c) h)) in record {
+            rows-all = k .all;
+            rows-within = λ i hi. k .small i;
+            complement-within = complemented-lt matrices c (g .n) p hc;
+            regular = k .regular;
+            dry = k .dry;
+          };
+    }
+
+    -- its plan holds it ..
+    pub made-route : routeOf (planFor g rows c) ≡ record { geometry = g; passes = passesFor g rows c }
+    unfolding planFor
+    made-route = runs-back (record { geometry = g; passes = passesFor g rows c }) made-runs
+
+    -- .. and is one that can run, from the start
+    pub made-sound : sound (planFor g rows c) ≡ true
+    unfolding planFor
+    made-sound = runs→sound (record { geometry = g; passes = passesFor g rows c }) made-runs
+
+    pub made-can-run : canRun (planFor g rows c) 0 ≡ true
+    made-can-run = sound→can-run (planFor g rows c) 0 made-sound zero-le
+
+-- ---- any sound plan that performs an order, whoever made it
+module _ (plan : Plan) (e : sound plan ≡ true) (rows : List ℕ) (c : ℕ)
+    (does : (x : ℕ) → x < 2 ^ plan .geometry .n → performed (routeOf plan .passes) x ≡ target rows c x) where
+  -- has at least rank φ divided by m - b passes, rounded up
+  pub runs-bound : dividedUp (rank (phi (plan .geometry .m) (columns (plan .geometry .n) rows)) (plan .geometry .m)) (plan .geometry .m - plan .geometry .b) ≤ plan .count
+  runs-bound =
+      subst (λ (k : ℕ). dividedUp (rank (phi (plan .geometry .m) (columns (plan .geometry .n) rows)) (plan .geometry .m)) (plan .geometry .m - plan .geometry .b) ≤ k) (route-length plan)
+      (passes-bound (plan .geometry .n) (plan .geometry .b) (plan .geometry .m) (sound-allowed plan e .block-below) (omega (arith, sound-allowed plan e .memory-below)) rows c (routeOf plan .passes)
+      (at-all (record { rows = []; complement = 0 }) (λ p. spills (plan .geometry .b) (plan .geometry .m) (p .rows) ≡ false) (routeOf plan .passes)
+      (λ p h. sound-dry plan e p (subst (λ (k : ℕ). p < k) (route-length plan) h)))
+      does)
+
+  -- and ours is at most one longer
+  pub made-near : length rows ≡ plan .geometry .n → singular (plan .geometry .n) rows ≡ false → length (passesFor (plan .geometry) rows c) ≤ plan .count + 1
+  made-near hr hs = omega (arith, runs-bound, made-length (plan .geometry) rows c (sound→checked plan e .limits) hr hs)

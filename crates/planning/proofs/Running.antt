@@ -1,0 +1,235 @@
+-- Which plans are sound? Those whose route can run and whose other places are zero. Assumes nothing.
+use mathlib.Core.Path.{_∙_, _≡_, ap, refl, subst, sym}
+use mathlib.Core.Bool.{Bool, _&&_, _||_, false, not, true}
+use mathlib.Core.Logic.{_⊎_, inl, inr, ⊎-elim}
+use mathlib.Core.List.{List, []}
+use Prim.Native.Nat.{_%_, _*_, _+_, _/_, _<_, _≤_, ℕ}
+use native.Mathlib.Omega.{arith}
+use lib.Dec.{eqb, leb}
+use lib.ListN.{List·getD-eq-default, getD, length}
+use borrow.Author.Tests.{eq-eqb, le-leb, leb-false, leb-true, lt-leb, not-true}
+use Rattle.bank.proofs.Limits.{Allowed, allowed→limits, and-both, and-l, and-r, limits→allowed}
+use Rattle.bank.specs.Geometry.{inLimits, records}
+use Rattle.bank.specs.Limits.{PASSES, ROWS}
+use Rattle.bank.specs.declared.Geometry.{Geometry}
+use Rattle.algebra.proofs.Search.{le-or-lt, none-elim, none-intro}
+use Rattle.algebra.specs.Matrix.{singular, spills}
+use Rattle.algebra.specs.Search.{some}
+use Rattle.planning.proofs.Runs.{Runs}
+use Rattle.planning.proofs.Stored.{route-at, route-back, route-length, stored-complement, stored-place, stored-row, taken-at, taken-length}
+use Rattle.planning.specs.Pass.{Pass, Route, passAt, passIn, total}
+use Rattle.planning.specs.Running.{canRun, countInLimits, singularPass, sound, spare, spareComplement, spareRow, spillingPass, strayComplement, strayRow}
+use Rattle.planning.specs.Stored.{planOf, routeOf, storedComplements, storedPass, storedRows}
+use Rattle.planning.specs.declared.Plan.{Plan}
+
+-- the conditions of number 7, one by one
+pub record Checked (plan : Plan) : Type 0 where
+  pub limits : inLimits (plan .geometry) ≡ true
+  pub count : countInLimits plan ≡ true
+  pub rows-within : strayRow plan ≡ false
+  pub complements-within : strayComplement plan ≡ false
+  pub rows-zero : spareRow plan ≡ false
+  pub complements-zero : spareComplement plan ≡ false
+  pub regular : singularPass plan ≡ false
+  pub dry : spillingPass plan ≡ false
+
+pub sound→checked : (plan : Plan) → sound plan ≡ true → Checked plan
+unfolding sound
+sound→checked plan e =
+    let c1 = inLimits (plan .geometry) && countInLimits plan in
+    let c2 = c1 && not (strayRow plan) in
+    let c3 = c2 && not (strayComplement plan) in
+    let c4 = c3 && not (spareRow plan) in
+    let c5 = c4 && not (spareComplement plan) in
+    let c6 = c5 && not (singularPass plan) in
+    let e6 = and-l c6 (not (spillingPass plan)) e in
+    let e5 = and-l c5 (not (singularPass plan)) e6 in
+    let e4 = and-l c4 (not (spareComplement plan)) e5 in
+    let e3 = and-l c3 (not (spareRow plan)) e4 in
+    let e2 = and-l c2 (not (strayComplement plan)) e3 in
+    let e1 = and-l c1 (not (strayRow plan)) e2 in
+    record {
+      limits = and-l (inLimits (plan .geometry)) (countInLimits plan) e1;
+      count = and-r (inLimits (plan .geometry)) (countInLimits plan) e1;
+      rows-within = not-true (strayRow plan) (and-r c1 (not (strayRow plan)) e2);
+      complements-within = not-true (strayComplement plan) (and-r c2 (not (strayComplement plan)) e3);
+      rows-zero = not-true (spareRow plan) (and-r c3 (not (spareRow plan)) e4);
+      complements-zero = not-true (spareComplement plan) (and-r c4 (not (spareComplement plan)) e5);
+      regular = not-true (singularPass plan) (and-r c5 (not (singularPass plan)) e6);
+      dry = not-true (spillingPass plan) (and-r c6 (not (spillingPass plan)) e);
+    }
+
+pub checked→sound : (plan : Plan) → Checked plan → sound plan ≡ true
+unfolding sound
+checked→sound plan k =
+    rw (k .limits, k .count, k .rows-within, k .complements-within, k .rows-zero, k .complements-zero, k .regular, k .dry)
+
+-- ---- what a sound plan gives
+module _ (plan : Plan) (e : sound plan ≡ true) where
+  checked : Checked plan
+  checked = sound→checked plan e
+
+  pub sound-allowed : Allowed (plan .geometry)
+  sound-allowed = limits→allowed (plan .geometry) (checked .limits)
+
+  pub sound-some : 1 ≤ plan .count
+  unfolding countInLimits
+  sound-some = leb-true 1 (plan .count) (and-l (leb 1 (plan .count)) _ (checked .count))
+
+  pub sound-few : plan .count ≤ PASSES
+  unfolding countInLimits
+  sound-few = leb-true (plan .count) PASSES (and-r (leb 1 (plan .count)) (leb (plan .count) PASSES) (checked .count))
+
+  pub sound-row : (p i : ℕ) → p < plan .count → i < plan .geometry .n → getD (plan .rows) (p * ROWS + i) 0 < records (plan .geometry)
+  sound-row p i hp hi =
+      leb-false (records (plan .geometry)) (getD (plan .rows) (p * ROWS + i) 0)
+      (none-elim (λ i. leb (records (plan .geometry)) (getD (plan .rows) (p * ROWS + i) 0)) (plan .geometry .n) i
+      (none-elim (λ p. some (λ i. leb (records (plan .geometry)) (getD (plan .rows) (p * ROWS + i) 0)) (plan .geometry .n)) (plan .count) p none hp) hi)
+    where
+      none : some (λ p. some (λ i. leb (records (plan .geometry)) (getD (plan .rows) (p * ROWS + i) 0)) (plan .geometry .n)) (plan .count) ≡ false
+      none = unfold strayRow in checked .rows-within
+
+  pub sound-complement : (p : ℕ) → p < plan .count → getD (plan .complements) p 0 < records (plan .geometry)
+  sound-complement p hp =
+      leb-false (records (plan .geometry)) (getD (plan .complements) p 0)
+      (none-elim (λ p. leb (records (plan .geometry)) (getD (plan .complements) p 0)) (plan .count) p none hp)
+    where
+      none : some (λ p. leb (records (plan .geometry)) (getD (plan .complements) p 0)) (plan .count) ≡ false
+      none = unfold strayComplement in checked .complements-within
+
+  pub sound-regular : (p : ℕ) → p < plan .count → singular (plan .geometry .n) (passAt (routeOf plan) p .rows) ≡ false
+  sound-regular p hp = none-elim (λ p. singular (plan .geometry .n) (passAt (routeOf plan) p .rows)) (plan .count) p none hp
+    where
+      none : some (λ p. singular (plan .geometry .n) (passAt (routeOf plan) p .rows)) (plan .count) ≡ false
+      none = unfold singularPass in checked .regular
+
+  pub sound-dry : (p : ℕ) → p < plan .count → spills (plan .geometry .b) (plan .geometry .m) (passAt (routeOf plan) p .rows) ≡ false
+  sound-dry p hp = none-elim (λ p. spills (plan .geometry .b) (plan .geometry .m) (passAt (routeOf plan) p .rows)) (plan .count) p none hp
+    where
+      none : some (λ p. spills (plan .geometry .b) (plan .geometry .m) (passAt (routeOf plan) p .rows)) (plan .count) ≡ false
+      none = unfold spillingPass in checked .dry
+
+-- the route of a sound plan can run
+pub sound→runs : (plan : Plan) → length (plan .rows) ≡ PASSES * ROWS → sound plan ≡ true → Runs (routeOf plan)
+unfolding routeOf
+sound→runs plan long e = record {
+  allowed = sound-allowed plan e;
+  some-pass = omega (arith, sound-some plan e, route-length plan);
+  few-passes = omega (arith, sound-few plan e, route-length plan);
+  each-runs = λ p h.
+      let hp : p < plan .count = subst (λ (k : ℕ). p < k) (route-length plan) h in record {
+        rows-all = ap (λ (q : Pass). length (q .rows)) (route-at plan p hp) ∙ all p hp;
+        rows-within = λ i hi. subst (λ (k : ℕ). k < records (plan .geometry)) (sym (ap (λ (q : Pass). getD (q .rows) i 0) (route-at plan p hp) ∙ at p i hi)) (sound-row plan e p i hp hi);
+        complement-within = subst (λ (k : ℕ). k < records (plan .geometry)) (sym (ap (λ (q : Pass). q .complement) (route-at plan p hp) ∙ complement p)) (sound-complement plan e p hp);
+        regular = sound-regular plan e p hp;
+        dry = sound-dry plan e p hp;
+      };
+}
+  where
+    n : ℕ
+    n = plan .geometry .n
+
+    all : (p : ℕ) → p < plan .count → length (storedPass ROWS n (plan .rows) (plan .complements) p .rows) ≡ n
+    all p hp = unfold storedPass in taken-length PASSES ROWS n (plan .rows) p long (sound-allowed plan e .n-high) (omega (arith, sound-few plan e))
+
+    at : (p i : ℕ) → i < n → getD (storedPass ROWS n (plan .rows) (plan .complements) p .rows) i 0 ≡ getD (plan .rows) (p * ROWS + i) 0
+    at p i hi = unfold storedPass in taken-at ROWS n (plan .rows) p i hi
+
+    complement : (p : ℕ) → storedPass ROWS n (plan .rows) (plan .complements) p .complement ≡ getD (plan .complements) p 0
+    complement p = unfold storedPass in refl
+
+-- ---- the state's next step
+module _ (plan : Plan) (next : ℕ) where
+  pub can-run→sound : canRun plan next ≡ true → sound plan ≡ true
+  unfolding canRun
+  can-run→sound e = and-l (sound plan) _ e
+
+  pub can-run→next : canRun plan next ≡ true → next ≤ total (routeOf plan)
+  unfolding canRun
+  can-run→next e = leb-true next (total (routeOf plan)) (and-r (sound plan) (leb next (total (routeOf plan))) e)
+
+  pub sound→can-run : sound plan ≡ true → next ≤ total (routeOf plan) → canRun plan next ≡ true
+  unfolding canRun
+  sound→can-run e h = and-both (sound plan) (leb next (total (routeOf plan))) e (le-leb next (total (routeOf plan)) h)
+
+-- ---- a route that can run, stored, is a sound plan
+or-cases : (a b : Bool) → a || b ≡ true → (a ≡ true) ⊎ (b ≡ true)
+or-cases true b e = inl refl
+or-cases false b e = inr e
+
+and-never : (a b : Bool) → (a ≡ true → b ≡ false) → a && b ≡ false
+and-never true b f = f refl
+and-never false b f = refl
+
+module _ (route : Route) (k : Runs route) where
+  abbrev g : Geometry
+  g = route .geometry
+
+  abbrev ps : List Pass
+  ps = route .passes
+
+  pub runs-back : routeOf (planOf route) ≡ route
+  runs-back = route-back route (k .few-passes) (k .allowed .n-high) (λ p h. k .each-runs p h .rows-all)
+
+  -- past the passes, and past the rows of a pass, the rows are zero
+  zero-past : (p i : ℕ) → length ps ≤ p → getD (passIn ps p .rows) i 0 ≡ 0
+  zero-past p i h = ap (λ (q : Pass). getD (q .rows) i 0) (List·getD-eq-default ps (record { rows = []; complement = 0 }) h)
+
+  zero-above : (p i : ℕ) → g .n ≤ i → getD (passIn ps p .rows) i 0 ≡ 0
+  zero-above p i h =
+      ⊎-elim (λ (l : length ps ≤ p). zero-past p i l)
+      (λ (l : p < length ps). List·getD-eq-default (passIn ps p .rows) 0 (omega (arith, k .each-runs p l .rows-all))) (le-or-lt (length ps) p)
+
+  counted : leb 1 (length ps) && leb (length ps) PASSES ≡ true
+  counted = and-both (leb 1 (length ps)) (leb (length ps) PASSES) (le-leb 1 (length ps) (k .some-pass)) (le-leb (length ps) PASSES (k .few-passes))
+
+  no-stray-row : (p i : ℕ) → p < length ps → i < g .n → leb (records g) (getD (storedRows PASSES ROWS ps) (p * ROWS + i) 0) ≡ false
+  no-stray-row p i hp hi =
+      lt-leb (records g) (getD (storedRows PASSES ROWS ps) (p * ROWS + i) 0)
+      (subst (λ (x : ℕ). x < records g) (sym (stored-row PASSES ROWS ps p i (omega (arith, k .few-passes)) (omega (arith, k .allowed .n-high)))) (k .each-runs p hp .rows-within i hi))
+
+  no-stray-complement : (p : ℕ) → p < length ps → leb (records g) (getD (storedComplements PASSES ps) p 0) ≡ false
+  no-stray-complement p hp =
+      lt-leb (records g) (getD (storedComplements PASSES ps) p 0)
+      (subst (λ (x : ℕ). x < records g) (sym (stored-complement PASSES ROWS ps p (omega (arith, k .few-passes)))) (k .each-runs p hp .complement-within))
+
+  no-spare-row : (q : ℕ) → q < PASSES * ROWS → leb (length ps) (q / ROWS) || leb (g .n) (q % ROWS) ≡ true → not (eqb (getD (storedRows PASSES ROWS ps) q 0) 0) ≡ false
+  no-spare-row q h e =
+      ap not (eq-eqb (getD (storedRows PASSES ROWS ps) q 0) 0 (stored-place PASSES ROWS ps q h
+      ∙ ⊎-elim (λ (l : leb (length ps) (q / ROWS) ≡ true). zero-past (q / ROWS) (q % ROWS) (leb-true (length ps) (q / ROWS) l))
+      (λ (l : leb (g .n) (q % ROWS) ≡ true). zero-above (q / ROWS) (q % ROWS) (leb-true (g .n) (q % ROWS) l))
+      (or-cases (leb (length ps) (q / ROWS)) (leb (g .n) (q % ROWS)) e)))
+
+  no-spare-complement : (p : ℕ) → p < PASSES → leb (length ps) p ≡ true → not (eqb (getD (storedComplements PASSES ps) p 0) 0) ≡ false
+  no-spare-complement p h e =
+      ap not (eq-eqb (getD (storedComplements PASSES ps) p 0) 0 (stored-complement PASSES ROWS ps p h
+      ∙ ap (λ (q : Pass). q .complement) (List·getD-eq-default ps (record { rows = []; complement = 0 }) (leb-true (length ps) p e))))
+
+  pub runs→sound : sound (planOf route) ≡ true
+  runs→sound = checked→sound (planOf route) (record {
+    limits = unfold planOf in allowed→limits (route .geometry) (k .allowed);
+    count = unfold planOf countInLimits in counted;
+    rows-within = unfold planOf strayRow in
+        none-intro (λ p. some (λ i. leb (records g) (getD (storedRows PASSES ROWS ps) (p * ROWS + i) 0)) (g .n)) (length ps)
+        (λ p hp. none-intro (λ i. leb (records g) (getD (storedRows PASSES ROWS ps) (p * ROWS + i) 0)) (g .n) (λ i hi. no-stray-row p i hp hi));
+    complements-within = unfold planOf strayComplement in
+        none-intro (λ p. leb (records g) (getD (storedComplements PASSES ps) p 0)) (length ps) (λ p hp. no-stray-complement p hp);
+    rows-zero = unfold planOf spareRow spare in
+        none-intro (λ q. (leb (length ps) (q / ROWS) || leb (g .n) (q % ROWS)) && not (eqb (getD (storedRows PASSES ROWS ps) q 0) 0)) (PASSES * ROWS)
+        (λ q h. and-never (leb (length ps) (q / ROWS) || leb (g .n) (q % ROWS)) (not (eqb (getD (storedRows PASSES ROWS ps) q 0) 0)) (no-spare-row q h));
+    complements-zero = unfold planOf spareComplement in
+        none-intro (λ p. leb (length ps) p && not (eqb (getD (storedComplements PASSES ps) p 0) 0)) PASSES
+        (λ p h. and-never (leb (length ps) p) (not (eqb (getD (storedComplements PASSES ps) p 0) 0)) (no-spare-complement p h));
+    regular = regular;
+    dry = dry;
+  })
+    where
+      regular : singularPass (planOf route) ≡ false
+      regular = unfold singularPass in
+          none-intro (λ p. singular (planOf route .geometry .n) (passAt (routeOf (planOf route)) p .rows)) (planOf route .count)
+          (λ p h. unfold planOf in ap (λ (r : Route). singular (route .geometry .n) (passAt r p .rows)) runs-back ∙ k .each-runs p h .regular)
+
+      dry : spillingPass (planOf route) ≡ false
+      dry = unfold spillingPass in
+          none-intro (λ p. spills (planOf route .geometry .b) (planOf route .geometry .m) (passAt (routeOf (planOf route)) p .rows)) (planOf route .count)
+          (λ p h. unfold planOf in ap (λ (r : Route). spills (route .geometry .b) (route .geometry .m) (passAt r p .rows)) runs-back ∙ k .each-runs p h .dry)

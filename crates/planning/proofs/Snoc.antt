@@ -1,0 +1,69 @@
+-- What are the lists of places, partners and mates with one more at the end? Assumes nothing.
+use mathlib.Core.Path.{_∙_, _≡_, ap, refl, sym}
+use mathlib.Core.Bool.{Bool, false, true}
+use mathlib.Core.List.{List, [], _++_, _∷_}
+use Prim.Native.Nat.{_+_, _^_, suc, zero, ℕ}
+use native.Mathlib.Nat.{add-zero}
+use native.Mathlib.Omega.{arith}
+use lib.Dec.{eqb}
+use lib.ListN.{length}
+use borrow.Author.Tests.{eqb-true}
+use Rattle.algebra.specs.Search.{which}
+use Rattle.planning.proofs.Acts.{All}
+use Rattle.planning.specs.Making.{mate, partner}
+
+-- the place j, where b says so
+abbrev pub one-place : Bool → ℕ → List ℕ
+one-place true j = j ∷ []
+one-place false j = []
+
+pub which-snoc : (p : ℕ → Bool) (k j : ℕ) → which p (suc k) j ≡ which p k j ++ one-place (p (j + k)) (j + k)
+unfolding which
+which-snoc p zero j = ap (λ (i : ℕ). elim (p i) [ true ↦ i ∷ [] | false ↦ [] ]) (sym (add-zero j)) ∙ go (p (j + 0))
+  where
+    go : (b : Bool) → _≡_ {A = List ℕ} (elim b [ true ↦ (j + 0) ∷ [] | false ↦ [] ]) (one-place b (j + 0))
+    go true = refl
+    go false = refl
+which-snoc p (suc k) j = go (p j) (which-snoc p k (suc j) ∙ ap (λ (i : ℕ). which p k (suc j) ++ one-place (p i) i) (omega arith))
+  where
+    go : (b : Bool) → which p (suc k) (suc j) ≡ which p k (suc j) ++ one-place (p (j + suc k)) (j + suc k)
+        → _≡_ {A = List ℕ} (elim b [ true ↦ j ∷ which p (suc k) (suc j) | false ↦ which p (suc k) (suc j) ])
+        (elim b [ true ↦ j ∷ which p k (suc j) | false ↦ which p k (suc j) ] ++ one-place (p (j + suc k)) (j + suc k))
+    go true e = ap (λ (l : List ℕ). j ∷ l) e
+    go false e = e
+
+-- one more pair that changes places
+pub partner-snoc : (xs ys : List ℕ) (x y j : ℕ) → length xs ≡ length ys → All (λ z. x ≡ z → ⊥) xs → All (λ z. x ≡ z → ⊥) ys → All (λ z. y ≡ z → ⊥) xs → All (λ z. y ≡ z → ⊥) ys
+    → partner (xs ++ (x ∷ [])) (ys ++ (y ∷ [])) j ≡ elim (eqb j x) [ true ↦ y | false ↦ elim (eqb j y) [ true ↦ x | false ↦ partner xs ys j ] ]
+unfolding partner
+partner-snoc [] [] x y j l a b c d = refl
+partner-snoc [] (v ∷ ys) x y j l a b c d = absurd (omega (arith, l))
+partner-snoc (u ∷ xs) [] x y j l a b c d = absurd (omega (arith, l))
+partner-snoc (u ∷ xs) (v ∷ ys) x y j l a b c d =
+    go (eqb j u) (eqb j v) (eqb j x) (eqb j y) refl refl refl refl (partner-snoc xs ys x y j (omega (arith, l)) (a .1) (b .1) (c .1) (d .1))
+  where
+    go : (p q r s : Bool) → eqb j u ≡ p → eqb j v ≡ q → eqb j x ≡ r → eqb j y ≡ s
+        → partner (xs ++ (x ∷ [])) (ys ++ (y ∷ [])) j ≡ elim r [ true ↦ y | false ↦ elim s [ true ↦ x | false ↦ partner xs ys j ] ]
+        → _≡_ {A = ℕ} (elim p [ true ↦ v | false ↦ elim q [ true ↦ u | false ↦ partner (xs ++ (x ∷ [])) (ys ++ (y ∷ [])) j ] ])
+        (elim r [ true ↦ y | false ↦ elim s [ true ↦ x | false ↦ elim p [ true ↦ v | false ↦ elim q [ true ↦ u | false ↦ partner xs ys j ] ] ] ])
+    go false false r s e f g h ih = ih
+    go true q true s e f g h ih = absurd (a .0 (sym (eqb-true j x g) ∙ eqb-true j u e))
+    go true q false true e f g h ih = absurd (c .0 (sym (eqb-true j y h) ∙ eqb-true j u e))
+    go true q false false e f g h ih = refl
+    go false true true s e f g h ih = absurd (b .0 (sym (eqb-true j x g) ∙ eqb-true j v f))
+    go false true false true e f g h ih = absurd (d .0 (sym (eqb-true j y h) ∙ eqb-true j v f))
+    go false true false false e f g h ih = refl
+
+-- one more pair of which the first gets the second
+pub mate-snoc : (us ws : List ℕ) (u w j : ℕ) → length us ≡ length ws → All (λ z. u ≡ z → ⊥) us → mate (us ++ (u ∷ [])) (ws ++ (w ∷ [])) j ≡ elim (eqb j u) [ true ↦ 2 ^ w | false ↦ mate us ws j ]
+unfolding mate
+mate-snoc [] [] u w j l a = refl
+mate-snoc [] (v ∷ ws) u w j l a = absurd (omega (arith, l))
+mate-snoc (x ∷ us) [] u w j l a = absurd (omega (arith, l))
+mate-snoc (x ∷ us) (v ∷ ws) u w j l a = go (eqb j x) (eqb j u) refl refl (mate-snoc us ws u w j (omega (arith, l)) (a .1))
+  where
+    go : (p q : Bool) → eqb j x ≡ p → eqb j u ≡ q → mate (us ++ (u ∷ [])) (ws ++ (w ∷ [])) j ≡ elim q [ true ↦ 2 ^ w | false ↦ mate us ws j ]
+        → _≡_ {A = ℕ} (elim p [ true ↦ 2 ^ v | false ↦ mate (us ++ (u ∷ [])) (ws ++ (w ∷ [])) j ]) (elim q [ true ↦ 2 ^ w | false ↦ elim p [ true ↦ 2 ^ v | false ↦ mate us ws j ] ])
+    go false q e f ih = ih
+    go true true e f ih = absurd (a .0 (sym (eqb-true j u f) ∙ eqb-true j x e))
+    go true false e f ih = refl
