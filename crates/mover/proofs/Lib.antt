@@ -3,3 +3,5 @@ pub mod Parts
 pub mod Places
 pub mod Filled
 pub mod Drives
+pub mod Columns
+pub mod Sizes

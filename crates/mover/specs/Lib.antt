@@ -2,3 +2,4 @@
 pub mod State
 pub mod Promise
 pub mod Places
+pub mod Tables

@@ -4,11 +4,20 @@ ghost use Prim.Native.Nat.{ℕ, _+_, _*_, _/_, _%_, _≤_, _<_};
 ghost use lib.Dec.{eqb};
 ghost use lib.ListN.{length};
 ghost use Rattle.moving.specs.Bytes.{copied, laid};
+ghost use Rattle.moving.specs.Step.{readTakes, readFrom, writeTakes, writeFrom};
 ghost use Rattle.mover.specs.Places.{placeBy, inBlock, onDrives, placeIn, placeOn};
+ghost use Rattle.mover.specs.Tables.{ReadReady, WriteReady, passOf};
 use crate::bytes::copy_part;
 use crate::bytes::fill_block;
 use crate::bytes::flip;
+use crate::tables::Tables;
+use crate::tables::first_block;
+use crate::tables::first_place;
+use crate::tables::goes_to;
+use bank::Address;
 use bank::Block;
+use bank::Geometry;
+use bank::power;
 
 // The block of size bytes goes to memory's index at.
 fn read_block(memory: &mut [u8], at: usize, area: &[u8], block: Block, size: usize)
@@ -94,4 +103,46 @@ fn write_drives(
         block = next;
         q += 1;
     }
+}
+
+// Read turn of a load: on each drive, one block of the area goes to its place in memory.
+pub fn read_step(memory: &mut [u8], area: &[u8], g: Geometry, load: u64, turn: u64)
+    requires { ⌜ ReadReady g load turn (now area) (now memory) ⌝ }
+    ensures { λ _. ⌜ now (memory .exit) ≡ copied (readTakes g turn) (readFrom g load) (g .r) (now (area .entry)) (now (memory .entry)) ⌝ }
+{
+    let drives = power(g.d);
+    let size = power(g.b) * g.r as u64;
+    let stripe = turn * drives;
+    let first = Block(load * power(g.m - g.b) + stripe);
+    let at = (stripe * size) as usize;
+    read_drives(memory, at, area, first, size as usize, drives as usize);
+}
+
+// Write turn of a load: on each drive, one block of the area is filled from memory, which stays.
+pub fn write_step(area: &mut [u8], memory: &[u8], t: Tables, load: u64, turn: u64)
+    requires { ⌜ WriteReady t load turn (now area) (now memory) ⌝ }
+    ensures { λ _. ⌜ now (area .exit) ≡ copied (writeTakes (t .geometry) (passOf t) load turn) (writeFrom (t .geometry) (passOf t)) (t .geometry .r) (now (memory .entry)) (now (area .entry)) ⌝ }
+{
+    let g = t.geometry;
+    let first = Address(load * power(g.m));
+    let goes = goes_to(t, first);
+    let place = first_place(t, goes, turn);
+    let block = first_block(t, goes, place);
+    let b = g.b as usize;
+    let e = b + g.d as usize;
+    let blocks = t.blocks;
+    let columns = t.columns;
+    let places = t.columns;
+    write_drives(
+        area,
+        block,
+        &blocks[b..e],
+        memory,
+        &columns[0..b],
+        place,
+        &places[b..e],
+        power(g.d) as usize,
+        power(g.b) as usize,
+        g.r as usize,
+    );
 }
