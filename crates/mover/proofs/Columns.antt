@@ -5,7 +5,7 @@ use mathlib.Core.List.{List, [], _∷_, map, _++_, append-nil}
 use Prim.Native.Nat.{ℕ, zero, suc, _+_, _-_, _/_, _≤_, _^_}
 use native.Mathlib.Nat.{add-zero, zero-add, le-of-suc-le-suc, not-suc-le-zero}
 use native.Mathlib.Omega.{arith}
-use lib.ListN.{length, getD, take, drop, length-map, length-drop, replicate}
+use lib.ListN.{length, getD, take, drop, length-map, length-drop, replicate, length-append}
 use lib.Seq.{drop-append-le, take-append-le, take-at, take-take}
 use Rattle.algebra.proofs.Columns.{columns-length}
 use Rattle.algebra.specs.Matrix.{apply, columns, inverse, singular}
@@ -15,7 +15,7 @@ use Rattle.bank.specs.Limits.{ROWS}
 use Rattle.bank.specs.declared.Geometry.{Geometry}
 use Rattle.moving.proofs.Low.{low-regular}
 use Rattle.planning.specs.Pass.{Pass}
-use Rattle.mover.specs.Tables.{Prepared, TablesReady, lowColumns, passOf, passWith, tablesFor}
+use Rattle.mover.specs.Tables.{Prepared, TablesReady, lowBlocks, lowColumns, passOf, passWith, tablesFor}
 use Rattle.mover.specs.declared.tables.Tables.{Tables}
 
 -- the first d of m units, mapped, with anything after them
@@ -95,6 +95,20 @@ module _ (t : Tables) (k : Prepared t) where
 
   pub all-columns : take (geo .m) (t .columns) ≡ columns (geo .m) low
   all-columns = ap (take (geo .m)) (k .columns-are) ∙ take-at (columns (geo .m) low) (replicate (ROWS - geo .m) 0) (geo .m) (columns-length (geo .m) low)
+
+  -- there is room for m columns
+  pub columns-room : geo .m ≤ length (t .columns)
+  columns-room = omega (arith, ap length (k .columns-are), length-append (columns (geo .m) low) (replicate (ROWS - geo .m) 0), columns-length (geo .m) low)
+
+  pub blocks-room : geo .m ≤ length (t .blocks)
+  blocks-room =
+      omega (
+        arith,
+        ap length (k .blocks-are),
+        length-append (lowBlocks geo (passOf t)) (replicate (ROWS - geo .m) 0),
+        length-map (lowColumns geo (passOf t)) (λ v. apply (passOf t .rows) v / block geo),
+        columns-length (geo .m) low,
+      )
 
   part-low : (o d : ℕ) (z : List ℕ) → o + d ≤ geo .m → take d (drop o (columns (geo .m) low ++ z)) ≡ map (apply low) (units d o)
   unfolding columns

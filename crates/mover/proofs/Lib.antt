@@ -5,3 +5,4 @@ pub mod Filled
 pub mod Drives
 pub mod Columns
 pub mod Sizes
+pub mod Steps

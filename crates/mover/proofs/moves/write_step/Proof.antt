@@ -1,113 +1,119 @@
+-- `mover::moves::write_step` meets its contract: blocks and places by the pass's columns are those of the definition. Assumes nothing.
+use mathlib.Core.Path.{_≡_, ap, _∙_}
+use Prim.Native.Nat.{ℕ, _+_, _*_, _≤_}
+use native.Mathlib.Omega.{arith}
+use lib.ListN.{length}
+use lib.Pow.{pow-pos}
+use Rattle.algebra.specs.Matrix.{target}
+use Rattle.bank.specs.Geometry.{memory}
+use Rattle.mover.proofs.Columns.{blocks-room, columns-room}
+use Rattle.mover.proofs.Sizes.{records-fit}
+use Rattle.mover.proofs.Steps.{in-area, in-memory, load-lt, on-drive, size-pos, write-is}
+use Rattle.mover.specs.Tables.{passOf}
 use borrow.Author.Needs.{needs}
 use Rattle.mover.proofs.moves.write_step.Statement.{statement}
 use Rattle.mover.proofs.moves.write_step.Tie as tie
-use Rattle.mover.proofs.moves.write_step.Reads as reads
-use Rattle.mover.proofs.moves.write_step.Lts as lts
-use Rattle.bank.proofs.power.Reads as power-reads
-use Rattle.mover.proofs.moves.write_drives.Reads as write-drives-reads
-use Rattle.mover.proofs.tables.first_block.Reads as first-block-reads
-use Rattle.mover.proofs.tables.first_place.Reads as first-place-reads
-use Rattle.mover.proofs.tables.goes_to.Reads as goes-to-reads
 
--- src/moves.rt:127:32
 power-requires : tie.Need-power-requires
 power-requires c κs = search needs
 
--- src/moves.rt:127:25
 mul-write-drives : tie.Need-mul-write-drives
-mul-write-drives c = ?
+mul-write-drives c = let s = c .before .before .before .before in record { fits = rw (c .power .ensures) (omega (arith, load-lt (s .args .t .geometry) (s .args .load) (s .args .turn) (s .args .area .now) (s .args .memory .now) (s .pre .within), records-fit (s .args .t .geometry) (s .pre .within .allowed))) }
 
--- src/moves.rt:128:9
 goes-to-requires : tie.Need-goes-to-requires
-goes-to-requires c κs = ?
+goes-to-requires c κs = let s = c .before .before .before .before in (s .pre .within .allowed, rw (c .power .ensures) (load-lt (s .args .t .geometry) (s .args .load) (s .args .turn) (s .args .area .now) (s .args .memory .now) (s .pre .within)))
 
--- src/moves.rt:129:9
 first-place-requires : tie.Need-first-place-requires
-first-place-requires c κs = ?
+first-place-requires c κs = let s = c .before .before .before .before .before in (s .pre .within .allowed, s .pre .within .turn-in)
 
--- src/moves.rt:130:9
 first-block-requires : tie.Need-first-block-requires
 first-block-requires c κs = search needs
 
--- src/moves.rt:131:13
 cast-b : tie.Need-cast-b
 cast-b c = search needs
 
--- src/moves.rt:132:17
 cast-e : tie.Need-cast-e
 cast-e c = search needs
 
--- src/moves.rt:132:13
 add-e : tie.Need-add-e
 add-e c = search needs
 
--- src/moves.rt:139:9
 mul-write-drives-2 : tie.Need-mul-write-drives-2
 mul-write-drives-2 c = search needs
 
--- src/moves.rt:139:9
 sub-write-drives : tie.Need-sub-write-drives
 sub-write-drives c = search needs
 
--- src/moves.rt:139:9
 part-write-drives-start : tie.Need-part-write-drives-start
 part-write-drives-start c = search needs
 
--- src/moves.rt:139:9
 part-write-drives-end : tie.Need-part-write-drives-end
-part-write-drives-end c = ?
+part-write-drives-end c =
+    let s = c .before .before .before .before .before .before .before .before .before .before .before .before .before .before in
+    let h : s .args .t .geometry .b + s .args .t .geometry .d ≤ length (s .args .t .blocks) = omega (arith, s .pre .within .allowed, blocks-room (s .args .t) (s .pre .prepared)) in
+    h
 
--- src/moves.rt:141:9
 sub-write-drives-2 : tie.Need-sub-write-drives-2
 sub-write-drives-2 c = search needs
 
--- src/moves.rt:141:9
 part-write-drives-start-2 : tie.Need-part-write-drives-start-2
 part-write-drives-start-2 c = search needs
 
--- src/moves.rt:141:9
 part-write-drives-end-2 : tie.Need-part-write-drives-end-2
-part-write-drives-end-2 c = ?
+part-write-drives-end-2 c =
+    let s = c .before .before .before .before .before .before .before .before .before .before .before .before .before .before .before .before in
+    let h : s .args .t .geometry .b ≤ length (s .args .t .columns) = omega (arith, s .pre .within .allowed, columns-room (s .args .t) (s .pre .prepared)) in
+    h
 
--- src/moves.rt:143:9
 mul-write-drives-3 : tie.Need-mul-write-drives-3
 mul-write-drives-3 c = search needs
 
--- src/moves.rt:143:9
 sub-write-drives-3 : tie.Need-sub-write-drives-3
 sub-write-drives-3 c = search needs
 
--- src/moves.rt:143:9
 part-write-drives-start-3 : tie.Need-part-write-drives-start-3
 part-write-drives-start-3 c = search needs
 
--- src/moves.rt:143:9
 part-write-drives-end-3 : tie.Need-part-write-drives-end-3
-part-write-drives-end-3 c = ?
+part-write-drives-end-3 c =
+    let s = c .before .before .before .before .before .before .before .before .before .before .before .before .before .before .before .before .before .before in
+    let h : s .args .t .geometry .b + s .args .t .geometry .d ≤ length (s .args .t .columns) = omega (arith, s .pre .within .allowed, columns-room (s .args .t) (s .pre .prepared)) in
+    h
 
--- src/moves.rt:144:9
 power-requires-2 : tie.Need-power-requires-2
 power-requires-2 c κs = search needs
 
--- src/moves.rt:145:9
 power-requires-3 : tie.Need-power-requires-3
 power-requires-3 c κs = search needs
 
--- src/moves.rt:146:9
 cast-write-drives : tie.Need-cast-write-drives
 cast-write-drives c = search needs
 
--- src/moves.rt:136:5
 write-drives-requires : tie.Need-write-drives-requires
-write-drives-requires c κs = ?
+write-drives-requires c κs =
+    let s = c .before .before .before .before .before .before .before .before .before .before .before .before .before .before .before .before .before .before .before .before .before .before in
+    let g = s .args .t .geometry in
+    let goes = c .before .before .before .before .before .before .before .before .before .before .before .before .before .before .before .before .before .goes-to in
+    let place = c .before .before .before .before .before .before .before .before .before .before .before .before .before .before .before .before .first-place in
+    let first = c .before .before .before .before .before .before .before .before .before .before .before .before .before .before .before .first-block in
+    let eg : goes .result .0 ≡ target (passOf (s .args .t) .rows) (s .args .t .complement) (s .args .load * memory g) =
+        goes .ensures ∙ ap (λ (k : ℕ). target (passOf (s .args .t) .rows) (s .args .t .complement) (s .args .load * k)) (c .before .before .before .before .before .before .before .before .before .before .before .before .before .before .before .before .before .before .power .ensures) in
+    rw (c .before .before .power2 .ensures, c .before .power3 .ensures) ((size-pos g (s .args .load) (s .args .turn) (s .args .area .now) (s .args .memory .now) (s .pre .within), pow-pos (g .d)), (on-drive (s .args .t) (s .args .load) (s .args .turn) (s .args .area .now) (s .args .memory .now) (s .pre) (goes .result .0) (place .result) (first .result .0) eg (place .ensures) (first .ensures), (in-area (s .args .t) (s .args .load) (s .args .turn) (s .args .area .now) (s .args .memory .now) (s .pre) (goes .result .0) (place .result) (first .result .0) eg (place .ensures) (first .ensures), in-memory (s .args .t) (s .args .load) (s .args .turn) (s .args .area .now) (s .args .memory .now) (s .pre) (goes .result .0) (place .result) (first .result .0) eg (place .ensures) (first .ensures))))
 
--- src/moves.rt:122:1
 same-length : tie.Need-same-length
 same-length c = search needs
 
--- src/moves.rt:122:1
 returns : tie.Need-returns
-returns c = ?
+returns c =
+    let s = c .before .before .before .before .before .before .before .before .before .before .before .before .before .before .before .before .before .before .before .before .before .before .before .before .before in
+    let g = s .args .t .geometry in
+    let goes = c .before .before .before .before .before .before .before .before .before .before .before .before .before .before .before .before .before .before .before .before .goes-to in
+    let place = c .before .before .before .before .before .before .before .before .before .before .before .before .before .before .before .before .before .before .before .first-place in
+    let first = c .before .before .before .before .before .before .before .before .before .before .before .before .before .before .before .before .before .before .first-block in
+    let eg : goes .result .0 ≡ target (passOf (s .args .t) .rows) (s .args .t .complement) (s .args .load * memory g) =
+        goes .ensures ∙ ap (λ (k : ℕ). target (passOf (s .args .t) .rows) (s .args .t .complement) (s .args .load * k)) (c .before .before .before .before .before .before .before .before .before .before .before .before .before .before .before .before .before .before .before .before .before .power .ensures) in
+    c .before .before .write-drives .ensures
+    ∙ rw (c .before .before .before .before .before .power2 .ensures, c .before .before .before .before .power3 .ensures) (write-is (s .args .t) (s .args .load) (s .args .turn) (s .args .area .now) (s .args .memory .now) (s .pre) (goes .result .0) (place .result) (first .result .0) eg (place .ensures) (first .ensures))
 
 pub write-step-spec : {M : Type 1} → statement M
 write-step-spec =
