@@ -15,3 +15,4 @@ pub mod Inverse
 pub mod Built
 pub mod Questions
 pub mod Loops
+pub mod Examples

@@ -43,19 +43,25 @@ pub apply-tight : (k : ℕ) (rows : List ℕ) (n i x : ℕ) → n ≤ k + i → 
 apply-tight k rows n i x h = lt-of-lt-of-le (apply-lt (drop i (take n rows)) x) (pow-mono (simp (length-drop, length-take) (omega arith)))
 
 -- the rows from place f on
-pub part-back : (rows : List ℕ) (f n i x : ℕ) → 0 < i → i ≤ n
-    → apply (drop i (take n (drop f rows))) x * 2 + parity (bitAnd (getD rows (f + (i - 1)) 0) x) ≡ apply (drop (i - 1) (take n (drop f rows))) x
-part-back rows f n i x p h = rw (← getD-drop f rows (i - 1) 0) (apply-back (drop f rows) n i x p h)
+pub part-turn : (rows : List ℕ) (f n i x r p : ℕ) → 0 < i → i ≤ n → r ≡ apply (drop i (take n (drop f rows))) x → p ≡ parity (bitAnd (getD rows (f + (i - 1)) 0) x)
+    → r * 2 + p ≡ apply (drop (i - 1) (take n (drop f rows))) x
+part-turn rows f n i x r p h l hr hp =
+    ap₂ (λ (a b : ℕ). a * 2 + b) hr (hp ∙ ap (λ (k : ℕ). parity (bitAnd k x)) (sym (getD-drop f rows (i - 1) 0))) ∙ apply-back (drop f rows) n i x h l
 
 -- ---- reducing: one entry more
-pub rest-next : (ws qs : List ℕ) (i v : ℕ) → bitXor (rest ws qs i v) (times (bit (rest ws qs i v) (getD qs i 0)) (getD ws i 0)) ≡ rest ws qs (i + 1) v
-unfolding rest
-rest-next ws qs i v = rw (add-one i)
+module _ (ws qs : List ℕ) (i v u d r : ℕ) (hu : u ≡ rest ws qs i v) (hd : d ≡ bit u (getD qs i 0)) where
+  pub rest-turn : r ≡ times d (getD ws i 0) → bitXor u r ≡ rest ws qs (i + 1) v
+  unfolding rest
+  rest-turn hr =
+      let e : bitXor (rest ws qs i v) (times (bit (rest ws qs i v) (getD qs i 0)) (getD ws i 0)) ≡ rest ws qs (i + 1) v = rw (add-one i) in
+      cc
 
-pub used-next : (ws qs ts : List ℕ) (t i v : ℕ)
-    → bitXor (bitXor t (used ws qs ts i v)) (times (bit (rest ws qs i v) (getD qs i 0)) (getD ts i 0)) ≡ bitXor t (used ws qs ts (i + 1) v)
-unfolding used
-used-next ws qs ts t i v = rw (add-one i) (xor-assoc t (used ws qs ts i v) (times (bit (rest ws qs i v) (getD qs i 0)) (getD ts i 0)))
+  pub used-turn : (ts : List ℕ) (s t : ℕ) → s ≡ bitXor t (used ws qs ts i v) → r ≡ times d (getD ts i 0) → bitXor s r ≡ bitXor t (used ws qs ts (i + 1) v)
+  unfolding used
+  used-turn ts s t hs hr =
+      let e : bitXor (bitXor t (used ws qs ts i v)) (times (bit (rest ws qs i v) (getD qs i 0)) (getD ts i 0)) ≡ bitXor t (used ws qs ts (i + 1) v) =
+      rw (add-one i) (xor-assoc t (used ws qs ts i v) (times (bit (rest ws qs i v) (getD qs i 0)) (getD ts i 0))) in
+      cc
 
 pub used-start : (ws qs ts : List ℕ) (t v : ℕ) → t ≡ bitXor t (used ws qs ts 0 v)
 unfolding used

@@ -26,6 +26,10 @@ use Rattle.algebra.specs.Elimination.{Echelon, built, rest, used}
 use Rattle.algebra.specs.Matrix.{apply, columns, inverse, singular, source, spills}
 use Rattle.algebra.specs.Vector.{comb}
 
+-- ---- all of the first n rows, as a part of the rows
+pub columns-whole : (room n : ℕ) (rows cols : List ℕ) → cols ≡ columns n (take (n - 0) rows) ++ replicate (room - n) 0 → cols ≡ columns n (take n rows) ++ replicate (room - n) 0
+columns-whole room n rows cols e = e ∙ ap (λ (k : ℕ). columns n (take k rows) ++ replicate (room - n) 0) (sub-zero n)
+
 -- ---- the entries made of the columns of a matrix, where zeros follow the columns
 module _ (room n : ℕ) (rows cols : List ℕ) (hn : n ≤ room) (hr : room ≤ 32) (hl : length rows ≤ n) (hc : cols ≡ columns n rows ++ replicate (room - n) 0) where
   column-is : (j : ℕ) → j < n → getD cols j 0 ≡ getD (columns n rows) j 0
@@ -101,7 +105,7 @@ module _ (room n : ℕ) (rows cols : List ℕ) (hn : n ≤ room) (hr : room ≤ 
         (rest→marked (columns n rows) j (e .vectors) (e .pivots) (e .tags) (e .count) (so-far .basis) (λ z. f (left-is ∙ z))) h)
 
 -- ---- the first n rows: the middle ones and the lower ones
-drop-take : (m n : ℕ) (l : List ℕ) → drop m (take n l) ≡ take (n - m) (drop m l)
+pub drop-take : (m n : ℕ) (l : List ℕ) → drop m (take n l) ≡ take (n - m) (drop m l)
 drop-take zero n l = ap (λ (k : ℕ). take k l) (sym (sub-zero n))
 drop-take (suc m) zero l = let e : 0 ≡ 0 - suc m = omega arith in ap (λ (k : ℕ). take k (drop (suc m) l)) e
 drop-take (suc m) (suc n) [] = sym (take-nil (suc n - suc m))

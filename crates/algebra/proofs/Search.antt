@@ -18,13 +18,13 @@ le-or-lt m n = go (leb m n) refl
 
 module _ (p : ℕ → Bool) where
   -- what the search from i over d numbers gives: every number passed over fails, and what is found holds
-  record Found (d i r : ℕ) : Type 0 where
-    low : i ≤ r
-    high : r ≤ i + d
-    before : (k : ℕ) → i ≤ k → k < r → p k ≡ false
-    holds : r < i + d → p r ≡ true
+  pub record Found (d i r : ℕ) : Type 0 where
+    pub low : i ≤ r
+    pub high : r ≤ i + d
+    pub before : (k : ℕ) → i ≤ k → k < r → p k ≡ false
+    pub holds : r < i + d → p r ≡ true
 
-  from : (d i : ℕ) → Found d i (leastFrom p d i)
+  pub from : (d i : ℕ) → Found d i (leastFrom p d i)
   unfolding leastFrom
   from zero i =
       record { low = le-refl i; high = omega arith; before = λ k a b. absurd (omega arith); holds = λ h. absurd (omega arith) }

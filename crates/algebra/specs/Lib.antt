@@ -3,3 +3,4 @@ pub mod Search
 pub mod Vector
 pub mod Matrix
 pub mod Elimination
+pub mod Examples

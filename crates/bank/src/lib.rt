@@ -69,3 +69,10 @@ pub fn power(k: u32) -> u64
 {
     1u64 << k
 }
+
+// The same number, in more bits.
+pub fn wide(x: u32) -> u64
+    ensures { λ r. ⌜ r ≡ x ⌝ }
+{
+    x as u64
+}

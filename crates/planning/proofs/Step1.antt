@@ -117,7 +117,7 @@ asc-shift m (x ∷ xs) h =
     (all-map (λ y. m + x < y) (λ u. m + u) xs (all-mono (λ y. x < y) (λ y. m + x < m + y) (λ y l. omega (arith, l)) xs (h .0)), asc-shift m xs (h .1))
 
 -- ---- what is added
-mate-low : (us ws : List ℕ) (m i : ℕ) → All (λ u. m ≤ u) us → i < m → mate us ws i ≡ 0
+pub mate-low : (us ws : List ℕ) (m i : ℕ) → All (λ u. m ≤ u) us → i < m → mate us ws i ≡ 0
 unfolding mate
 mate-low [] ws m i h l = refl
 mate-low (u ∷ us) [] m i h l = refl

@@ -1,5 +1,9 @@
 -- `matrix::echelon::grow` meets its contract: the column leaves nothing, or one entry. Assumes nothing.
+use mathlib.Core.Path.{_∙_, ap}
+use Prim.Native.Nat.{ℕ}
+use lib.Bits.{bitXor}
 use borrow.Author.Needs.{needs}
+use Rattle.algebra.specs.Elimination.{used}
 use Rattle.algebra.proofs.Loops.{grown-entry, grown-skip}
 use Rattle.matrix.specs.Echelon.{echelonOf}
 use Rattle.matrix.proofs.echelon.grow.Statement.{statement}
@@ -43,8 +47,9 @@ add-t13 c = search needs
 returns-2 : tie.Need-returns-2
 returns-2 c =
     let a = c .before .before .before .before .before .before .before .args in
-    let r = c .before .before .before .before .before .reduce .result in
-    grown-entry (echelonOf (a .e)) (a .j) (a .column) (r .left) (c .lowest .result) (r .tag) (search needs) (search needs) (search needs) (cc)
+    let r = c .before .before .before .before .before .reduce in
+    grown-entry (echelonOf (a .e)) (a .j) (a .column) (r .result .left) (c .lowest .result) (r .result .tag) (r .ensures .0) (search needs) (c .lowest .ensures)
+    (r .ensures .1 ∙ ap (λ (x : ℕ). bitXor x (used (a .e .vectors) (a .e .pivots) (a .e .tags) (a .e .count) (a .column))) (c .before .before .before .before .before .before .power .ensures))
 
 pub grow-spec : {M : Type 1} → statement M
 grow-spec =

@@ -5,7 +5,7 @@ use native.Mathlib.Omega.{arith}
 use lib.Bits.{bitXor}
 use borrow.Author.Needs.{needs}
 use Rattle.algebra.specs.Elimination.{rest, used}
-use Rattle.algebra.proofs.Loops.{rest-next, rest-start, used-next, used-start}
+use Rattle.algebra.proofs.Loops.{rest-start, rest-turn, used-start, used-turn}
 use Rattle.matrix.proofs.echelon.reduce.Statement.{statement}
 use Rattle.matrix.proofs.echelon.reduce.Tie as tie
 
@@ -56,10 +56,11 @@ loop-less c = search needs
 loop-again : tie.Need-loop-again Inv-loop μ-loop
 loop-again c =
     let a = c .before .before .before .before .before .before .before .before .args in
-    let i = c .before .before .before .before .loop .i in (
+    let l = c .before .before .before .before .loop in
+    let d = c .before .before .bit-of in (
       search needs,
-      cc (rest-next (a .e .vectors) (a .e .pivots) i (a .v)),
-      cc (used-next (a .e .vectors) (a .e .pivots) (a .e .tags) (a .t) i (a .v)),
+      rest-turn (a .e .vectors) (a .e .pivots) (l .i) (a .v) (l .u) (d .result) (c .before .times .result) (l .inv .1) (d .ensures) (c .before .times .ensures),
+      used-turn (a .e .vectors) (a .e .pivots) (l .i) (a .v) (l .u) (d .result) (c .times2 .result) (l .inv .1) (d .ensures) (a .e .tags) (l .s) (a .t) (l .inv .2) (c .times2 .ensures),
     )
 
 returns : tie.Need-returns Inv-loop μ-loop

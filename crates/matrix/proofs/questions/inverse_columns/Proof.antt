@@ -1,17 +1,17 @@
 -- `matrix::questions::inverse_columns` meets its contract. The loop's invariant: the first j columns are in place; column j is the source of 2^j.
 -- Assumes nothing.
-use mathlib.Core.Path.{_≡_, refl}
+use mathlib.Core.Path.{_∙_, _≡_, ap, refl}
 use Prim.Native.Nat.{_-_, _≤_}
-use native.Mathlib.Nat.{sub-zero}
 use native.Mathlib.Omega.{arith}
 use lib.ListN.{length-take, take}
 use borrow.Author.Needs.{needs}
 use Rattle.bank.specs.Limits.{ROWS}
 use Rattle.matrix.specs.Echelon.{echelonOf}
+use Rattle.algebra.specs.Elimination.{used}
 use Rattle.algebra.specs.Matrix.{columns, inverse}
 use Rattle.algebra.proofs.Built.{built-count}
 use Rattle.algebra.proofs.Columns.{columns-length}
-use Rattle.algebra.proofs.Questions.{inverse-built}
+use Rattle.algebra.proofs.Questions.{columns-whole, inverse-built}
 use Rattle.matrix.proofs.Filled.{filled, filled-all, filled-next}
 use Rattle.matrix.proofs.questions.inverse_columns.Statement.{statement}
 use Rattle.matrix.proofs.questions.inverse_columns.Tie as tie
@@ -65,8 +65,8 @@ loop-again c =
     let l = c .before .before .before .loop in
     let long = columns-length n (inverse n rows) in
     let column =
-    inverse-built ROWS n rows (k .result) (s .pre .0) (omega arith) (simp length-take (omega arith)) (cc (sub-zero n)) (echelonOf (e .result)) (e .ensures) (s .pre .1) (l .j) (search needs) in
-    (search needs, filled-next ROWS (columns n (inverse n rows)) (omega arith) (l .j) (c .reduce .result .tag) (l .out) (omega arith) (l .inv .1) (cc))
+    inverse-built ROWS n rows (k .result) (s .pre .0) (omega arith) (simp length-take (omega arith)) (columns-whole ROWS n (s .args .rows .now) (k .result) (k .ensures)) (echelonOf (e .result)) (e .ensures) (s .pre .1) (l .j) (search needs) in
+    (search needs, filled-next ROWS (columns n (inverse n rows)) (omega arith) (l .j) (c .reduce .result .tag) (l .out) (omega arith) (l .inv .1) (c .reduce .ensures .1 ∙ ap (used (e .result .vectors) (e .result .pivots) (e .result .tags) (e .result .count)) (c .before .power .ensures) ∙ column))
 
 returns : tie.Need-returns Inv-loop μ-loop
 returns c =

@@ -1,13 +1,12 @@
 -- `matrix::questions::source` meets its contract: what the reduction of y xor c uses. Assumes nothing.
 use mathlib.Core.Path.{_∙_}
-use native.Mathlib.Nat.{sub-zero}
 use native.Mathlib.Omega.{arith}
 use lib.ListN.{length-take, take}
 use borrow.Author.Needs.{needs}
 use Rattle.bank.specs.Limits.{ROWS}
 use Rattle.matrix.specs.Echelon.{echelonOf}
 use Rattle.algebra.proofs.Built.{built-count}
-use Rattle.algebra.proofs.Questions.{source-built}
+use Rattle.algebra.proofs.Questions.{columns-whole, source-built}
 use Rattle.matrix.proofs.questions.source.Statement.{statement}
 use Rattle.matrix.proofs.questions.source.Tie as tie
 
@@ -29,7 +28,7 @@ returns c =
     let k = c .before .before .before .columns in
     let e = c .before .eliminate in
     c .reduce .ensures .1
-    ∙ source-built ROWS (a .n) (take (a .n) (a .rows .now)) (k .result) (s .pre .0) (omega arith) (simp length-take (omega arith)) (cc (sub-zero (a .n)))
+    ∙ source-built ROWS (a .n) (take (a .n) (a .rows .now)) (k .result) (s .pre .0) (omega arith) (simp length-take (omega arith)) (columns-whole ROWS (a .n) (a .rows .now) (k .result) (k .ensures))
     (echelonOf (e .result)) (e .ensures) (s .pre .3) (a .c) (a .y) (s .pre .1) (s .pre .2)
 
 pub source-spec : {M : Type 1} → statement M

@@ -1,14 +1,15 @@
 -- `matrix::questions::spills` meets its contract. The loop's invariant: e holds the entries after the first j columns of the middle rows, and below 2^j
 -- the lower rows send to zero all that the middle rows do. Assumes nothing.
-use mathlib.Core.Path.{_∙_, _≡_, refl, subst, sym}
+use mathlib.Core.Path.{_∙_, _≡_, ap, refl, subst, sym}
 use mathlib.Core.Logic.{⊎-elim}
 use Prim.Native.Nat.{_-_, _≤_, ℕ}
 use native.Mathlib.Omega.{arith}
-use lib.ListN.{drop, length, length-take, take}
+use lib.Bits.{bitXor}
+use lib.ListN.{drop, getD, length, length-take, take}
 use borrow.Author.Needs.{needs}
 use Rattle.bank.specs.Limits.{ROWS}
 use Rattle.matrix.specs.Echelon.{echelonOf}
-use Rattle.algebra.specs.Elimination.{built}
+use Rattle.algebra.specs.Elimination.{built, used}
 use Rattle.algebra.proofs.Built.{built-count, built-next}
 use Rattle.algebra.proofs.Questions.{spills-no, spills-yes, tag-lt, tag-zero, through-left, through-tag}
 use Rattle.algebra.proofs.Spill.{Through, through-zero}
@@ -60,10 +61,12 @@ returns c =
     let k = c .before .before .before .before .before .before .before .columns in
     let r = c .before .before .before .reduce in
     let mid = take (a .m - a .b) (drop (a .b) (a .rows .now)) in
+    let e = l .e in
+    let tag = r .ensures .1 ∙ ap (λ (x : ℕ). bitXor x (used (e .vectors) (e .pivots) (e .tags) (e .count) (getD (k .result) (l .j) 0))) (c .before .before .before .before .power .ensures) in
     let short : length mid ≤ a .m = simp length-take (omega arith) in
     spills-yes (a .rows .now) (a .b) (a .m) (a .n) (s .pre .0) (s .pre .1) (r .result .tag)
-    (tag-lt ROWS (a .m) mid (k .result) (omega arith) (omega arith) short (k .ensures) (l .j) (r .result .left) (r .result .tag) (echelonOf (l .e)) (search needs) (l .inv .1) (r .ensures .0) (cc))
-    (tag-zero ROWS (a .m) mid (k .result) (omega arith) (omega arith) short (k .ensures) (l .j) (r .result .left) (r .result .tag) (echelonOf (l .e)) (search needs) (l .inv .1) (r .ensures .0) (cc) (c .before .before .if1 .taken))
+    (tag-lt ROWS (a .m) mid (k .result) (omega arith) (omega arith) short (k .ensures) (l .j) (r .result .left) (r .result .tag) (echelonOf e) (search needs) (l .inv .1) (r .ensures .0) tag)
+    (tag-zero ROWS (a .m) mid (k .result) (omega arith) (omega arith) short (k .ensures) (l .j) (r .result .left) (r .result .tag) (echelonOf e) (search needs) (l .inv .1) (r .ensures .0) tag (c .before .before .if1 .taken))
     (λ z. omega (arith, c .before .apply-part .ensures ∙ z, c .if2 .taken))
 
 grow-requires : tie.Need-grow-requires Inv-loop μ-loop
@@ -87,13 +90,15 @@ loop-again c =
     let r = c .before .before .reduce in
     let mid = take (a .m - a .b) (drop (a .b) (a .rows .now)) in
     let low = take (a .n - a .m) (drop (a .m) (a .rows .now)) in
+    let e = l .e in
+    let tag = r .ensures .1 ∙ ap (λ (x : ℕ). bitXor x (used (e .vectors) (e .pivots) (e .tags) (e .count) (getD (k .result) (l .j) 0))) (c .before .before .before .power .ensures) in
     let short : length mid ≤ a .m = simp length-take (omega arith) in (
       search needs,
-      built-next ROWS (k .result) (l .j) (echelonOf (l .e)) (echelonOf (c .grow .result)) (l .inv .1) (search needs),
+      built-next ROWS (k .result) (l .j) (echelonOf e) (echelonOf (c .grow .result)) (l .inv .1) (search needs),
       ⊎-elim
-          (λ t. through-tag ROWS (a .m) mid (k .result) (omega arith) (omega arith) short (k .ensures) (l .j) (r .result .left) (r .result .tag) (echelonOf (l .e)) (search needs) (l .inv .1) (r .ensures .0) (cc)
+          (λ t. through-tag ROWS (a .m) mid (k .result) (omega arith) (omega arith) short (k .ensures) (l .j) (r .result .left) (r .result .tag) (echelonOf e) (search needs) (l .inv .1) (r .ensures .0) tag
           low (t .0 .taken) (sym (t .1 .ensures) ∙ omega (arith, t .2 .left)) (l .inv .2))
-          (λ t. through-left ROWS (a .m) mid (k .result) (omega arith) (omega arith) short (k .ensures) (l .j) (r .result .left) (r .result .tag) (echelonOf (l .e)) (search needs) (l .inv .1) (r .ensures .0) (cc)
+          (λ t. through-left ROWS (a .m) mid (k .result) (omega arith) (omega arith) short (k .ensures) (l .j) (r .result .left) (r .result .tag) (echelonOf e) (search needs) (l .inv .1) (r .ensures .0) tag
           low (t .left) (l .inv .2))
           (c .before .if1 .came),
     )

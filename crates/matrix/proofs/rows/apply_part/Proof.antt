@@ -8,7 +8,7 @@ use borrow.Author.Needs.{needs}
 use Rattle.bank.specs.Limits.{ROWS}
 use Rattle.algebra.specs.Matrix.{apply}
 use Rattle.algebra.proofs.Digits.{parity-lt}
-use Rattle.algebra.proofs.Loops.{apply-start, apply-tight, part-back}
+use Rattle.algebra.proofs.Loops.{apply-start, apply-tight, part-turn}
 use Rattle.matrix.proofs.rows.apply_part.Statement.{statement}
 use Rattle.matrix.proofs.rows.apply_part.Tie as tie
 
@@ -60,7 +60,8 @@ loop-less c = search needs
 loop-again : tie.Need-loop-again Inv-loop μ-loop
 loop-again c =
     let a = c .before .before .before .before .args in
-    (search needs, cc (part-back (a .rows .now) (a .from) (a .to - a .from) (c .before .before .before .loop .i) (a .x) (search needs) (search needs)))
+    let l = c .before .before .before .loop in
+    (search needs, part-turn (a .rows .now) (a .from) (a .to - a .from) (l .i) (a .x) (l .r) (c .parity .result) (search needs) (search needs) (l .inv .1) (c .parity .ensures))
 
 returns : tie.Need-returns Inv-loop μ-loop
 returns c =

@@ -1,12 +1,12 @@
 -- `matrix::rows::columns` meets its contract. The loop's invariant: the first j columns are in place. Assumes nothing.
-use mathlib.Core.Path.{_≡_, refl}
+use mathlib.Core.Path.{_∙_, _≡_, ap, refl, sym}
 use Prim.Native.Nat.{_-_, _≤_}
 use native.Mathlib.Omega.{arith}
 use lib.ListN.{drop, take}
 use borrow.Author.Needs.{needs}
 use Rattle.bank.specs.Limits.{ROWS}
 use Rattle.matrix.proofs.Filled.{filled, filled-all, filled-next}
-use Rattle.algebra.specs.Matrix.{columns}
+use Rattle.algebra.specs.Matrix.{apply, columns}
 use Rattle.algebra.proofs.Columns.{columns-at, columns-length}
 use Rattle.matrix.proofs.rows.columns.Statement.{statement}
 use Rattle.matrix.proofs.rows.columns.Tie as tie
@@ -47,7 +47,7 @@ loop-again c =
     let l = c .before .before .before .loop in
     let part = take (a .to - a .from) (drop (a .from) (a .rows .now)) in (
       search needs,
-      filled-next ROWS (columns (a .n) part) (omega (arith, columns-length (a .n) part)) (l .j) (c .apply-part .result) (l .cols) (omega (arith, columns-length (a .n) part)) (l .inv .1) (cc (columns-at (a .n) part (l .j) (search needs))),
+      filled-next ROWS (columns (a .n) part) (omega (arith, columns-length (a .n) part)) (l .j) (c .apply-part .result) (l .cols) (omega (arith, columns-length (a .n) part)) (l .inv .1) (c .apply-part .ensures ∙ ap (apply part) (c .before .power .ensures) ∙ sym (columns-at (a .n) part (l .j) (search needs))),
     )
 
 returns : tie.Need-returns Inv-loop μ-loop

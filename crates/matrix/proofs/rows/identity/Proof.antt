@@ -1,5 +1,5 @@
 -- `matrix::rows::identity` meets its contract. The loop's invariant: the first i rows are in place. Assumes nothing.
-use mathlib.Core.Path.{_≡_, refl}
+use mathlib.Core.Path.{_∙_, _≡_, refl, sym}
 use Prim.Native.Nat.{_-_, _≤_}
 use native.Mathlib.Omega.{arith}
 use borrow.Author.Needs.{needs}
@@ -42,7 +42,7 @@ loop-again c =
     let n = c .before .before .before .args .n in
     let l = c .before .before .loop in (
       search needs,
-      filled-next ROWS (identity n) (omega (arith, identity-length n)) (l .i) (c .power .result) (l .rows) (omega (arith, identity-length n)) (l .inv .1) (cc (identity-at n (l .i) (search needs))),
+      filled-next ROWS (identity n) (omega (arith, identity-length n)) (l .i) (c .power .result) (l .rows) (omega (arith, identity-length n)) (l .inv .1) (c .power .ensures ∙ sym (identity-at n (l .i) (search needs))),
     )
 
 returns : tie.Need-returns Inv-loop μ-loop

@@ -1,5 +1,5 @@
 -- `matrix::rows::sums` meets its contract. The loop's invariant: the first i sums are in place. Assumes nothing.
-use mathlib.Core.Path.{_≡_, refl}
+use mathlib.Core.Path.{_∙_, _≡_, refl, sym}
 use Prim.Native.Nat.{_-_, _≤_}
 use native.Mathlib.Omega.{arith}
 use lib.ListN.{length, take}
@@ -50,7 +50,7 @@ loop-again c =
     let l = c .before .before .loop in
     let long : length (product (take n a) (take n b)) ≡ n = product-length n a (take n b) (omega arith) in (
       search needs,
-      filled-next ROWS (product (take n a) (take n b)) (omega arith) (l .i) (c .sum .result) (l .rows) (omega arith) (l .inv .1) (cc (product-at n a (take n b) (omega arith) (l .i) (search needs))),
+      filled-next ROWS (product (take n a) (take n b)) (omega arith) (l .i) (c .sum .result) (l .rows) (omega arith) (l .inv .1) (c .sum .ensures ∙ sym (product-at n a (take n b) (omega arith) (l .i) (search needs))),
     )
 
 returns : tie.Need-returns Inv-loop μ-loop

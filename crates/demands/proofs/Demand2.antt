@@ -1,0 +1,23 @@
+-- Demand 2 is proved. Assumes nothing.
+use mathlib.Core.Path.{_≡_}
+use lib.ListN.{length}
+use Rattle.bank.specs.Limits.{ROWS}
+use Rattle.algebra.specs.Matrix.{target}
+use Rattle.algebra.proofs.Singular.{Clash}
+use Rattle.order.specs.declared.Order.{Order}
+use Rattle.order.specs.Order.{matrixOf}
+use Rattle.order.proofs.Main.{three→shared-target, shared-target→three, sends, comes}
+use Rattle.demands.specs.Demand2.{Demand2, SharedTarget, OnlySource}
+
+-- for every order, whatever it holds; an order's rows fill the room of their array
+pub demand2 : (order : Order) → length (order .rows) ≡ ROWS → Demand2 order
+unfolding target
+demand2 order room =
+    record {
+      sends = sends order room;
+      returns = λ taken y h. let k = comes order room taken y h in record { x = k .from; given = k .answer; below = k .below; goes = k .goes; only = k .only };
+      singular-shares = λ inside form e.
+          let k = three→shared-target order inside form e in record { x = k .x; y = k .y; x-below = k .x-lt; y-below = k .y-lt; different = k .apart; shared = k .same };
+      shares-singular = λ inside form s.
+          shared-target→three order inside form (record { x = s .x; y = s .y; x-lt = s .x-below; y-lt = s .y-below; apart = s .different; same = s .shared });
+    }

@@ -1,0 +1,63 @@
+-- Demand 3 is proved. Assumes nothing.
+use mathlib.Core.Path.{_≡_, sym, ap, _∙_, subst}
+use mathlib.Core.Bool.{true}
+use mathlib.Core.List.{List}
+use Prim.Native.Nat.{ℕ, _*_, _/_, _<_}
+use native.Mathlib.Nat.{zero-add, le-of-eq}
+use lib.ListN.{length}
+use Rattle.bank.specs.Limits.{ROWS}
+use Rattle.bank.specs.Geometry.{records, block, drives}
+use Rattle.algebra.specs.Matrix.{target}
+use Rattle.order.specs.declared.Order.{Order}
+use Rattle.order.specs.Order.{matrixOf, judgement}
+use Rattle.order.proofs.Accepted.{judgement→accepted, complement-below, matrix-length}
+use Rattle.planning.specs.declared.Plan.{Plan}
+use Rattle.planning.specs.Pass.{performed, total, passSteps, phases, Route}
+use Rattle.planning.specs.Making.{passesFor}
+use Rattle.planning.specs.Stored.{planFor, planOf, routeOf}
+use Rattle.planning.proofs.Runs.{Runs}
+use Rattle.planning.proofs.Made.{made-length, made-performs, made-runs, made-route}
+use Rattle.planning.proofs.Stored.{route-length}
+use Rattle.moving.specs.Bytes.{recordOf}
+use Rattle.moving.specs.Step.{Buffers, areaOf, fits}
+use Rattle.moving.specs.Call.{fresh}
+use Rattle.moving.specs.Line.{Call, line, straysRefused}
+use Rattle.moving.proofs.Main.{any-line, line-advance, delivered, no-two-blocks}
+use Rattle.demands.specs.Demand2.{sentTo}
+use Rattle.demands.specs.Demand3.{Demand3}
+
+-- an order that is taken, and its plan
+module _ (order : Order) (room : length (order .rows) ≡ ROWS) (taken : judgement order ≡ 0) where
+  abbrev plan : Plan
+  plan = planFor (order .geometry) (matrixOf order) (order .complement)
+
+  route : routeOf plan ≡ record { geometry = order .geometry; passes = passesFor (order .geometry) (matrixOf order) (order .complement) }
+  route =
+      let k = judgement→accepted order taken in
+      made-route (order .geometry) (matrixOf order) (order .complement) (k .inside) (matrix-length order (k .inside) room) (k .regular) (complement-below order (k .form))
+
+  pub plan-runs : Runs (routeOf plan)
+  plan-runs =
+      let k = judgement→accepted order taken in
+      subst Runs (sym route) (made-runs (order .geometry) (matrixOf order) (order .complement) (k .inside) (matrix-length order (k .inside) room) (k .regular) (complement-below order (k .form)))
+
+  pub plan-performs : (x : ℕ) → x < records (order .geometry) → performed (routeOf plan .passes) x ≡ target (matrixOf order) (order .complement) x
+  plan-performs x h =
+      let k = judgement→accepted order taken in
+      ap (λ (r : Route). performed (r .passes) x) route
+      ∙ made-performs (order .geometry) (matrixOf order) (order .complement) (k .inside) (matrix-length order (k .inside) room) (k .regular) x h
+
+  -- for any bytes of the right lengths at the start, and any line of calls from a fresh state whose stray calls are refused
+  pub demand3 : (v : Buffers) → fits (order .geometry) v ≡ true → (cs : List Call) → straysRefused plan (fresh v) cs ≡ true → Demand3 order plan v cs
+  unfolding target total passSteps phases routeOf planFor planOf
+  demand3 v fitting cs strays =
+      let k = judgement→accepted order taken in
+      record {
+        within = any-line plan v cs strays .within;
+        counted = line-advance plan (fresh v) cs ∙ zero-add _;
+        delivers = λ ends x h. subst (λ (p : ℕ). recordOf (order .geometry .r) (areaOf p (line plan (fresh v) cs .buffers)) (sentTo order x) ≡ recordOf (order .geometry .r) (v .area0) x) (route-length plan)
+            (delivered plan plan-runs (matrixOf order) (order .complement) plan-performs v fitting cs strays ends .holds x h);
+        one-block = no-two-blocks plan plan-runs;
+        steps = ap (λ (p : ℕ). 2 * records (order .geometry) / (block (order .geometry) * drives (order .geometry)) * p) (route-length plan);
+        passes = le-of-eq (made-length (order .geometry) (matrixOf order) (order .complement) (k .inside) (matrix-length order (k .inside) room) (k .regular));
+      }

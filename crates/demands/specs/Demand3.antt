@@ -1,0 +1,40 @@
+-- Demand 3: what has a line of calls done to the records, and how many steps did it take? Assumes nothing.
+use mathlib.Core.Path.{_≡_}
+use mathlib.Core.Bool.{true}
+use mathlib.Core.List.{List}
+use Prim.Native.Nat.{ℕ, _+_, _-_, _*_, _/_, _<_, _≤_}
+use Rattle.bank.specs.Geometry.{records, block, drives, driveAt, blockAt}
+use Rattle.algebra.specs.Matrix.{columns, rank}
+use Rattle.order.specs.declared.Order.{Order}
+use Rattle.order.specs.Order.{matrixOf}
+use Rattle.planning.specs.declared.Plan.{Plan}
+use Rattle.planning.specs.Pass.{total}
+use Rattle.planning.specs.Columns.{phi}
+use Rattle.planning.specs.Making.{dividedUp}
+use Rattle.planning.specs.Stored.{routeOf}
+use Rattle.moving.specs.Bytes.{recordOf}
+use Rattle.moving.specs.Step.{Buffers, areaOf, touches}
+use Rattle.moving.specs.Call.{fresh}
+use Rattle.moving.specs.Line.{Call, line, lineSteps}
+use Rattle.demands.specs.Demand2.{sentTo}
+
+-- rank φ divided by m - b, rounded up
+abbrev pub rounds : Order → ℕ
+rounds order =
+    dividedUp (rank (phi (order .geometry .m) (columns (order .geometry .n) (matrixOf order))) (order .geometry .m)) (order .geometry .m - order .geometry .b)
+
+-- of an order, its plan, the bytes at the start, and a line of calls from a fresh state
+pub record Demand3 (order : Order) (plan : Plan) (v : Buffers) (cs : List Call) : Type 0 where
+  -- the steps never run past the total, and the state's next step says how many were done
+  pub within : line plan (fresh v) cs .next ≤ total (routeOf plan)
+  pub counted : line plan (fresh v) cs .next ≡ lineSteps plan (fresh v) cs
+  -- at the end the named area holds at Ax xor c the record that began at x, for every x
+  pub delivers : line plan (fresh v) cs .next ≡ total (routeOf plan) → (x : ℕ) → x < records (order .geometry)
+      → recordOf (order .geometry .r) (areaOf (plan .count) (line plan (fresh v) cs .buffers)) (sentTo order x) ≡ recordOf (order .geometry .r) (v .area0) x
+  -- no step moves more than one block on a drive
+  pub one-block : (s : ℕ) → s < total (routeOf plan) → (x y : ℕ) → x < records (order .geometry) → y < records (order .geometry)
+      → touches (routeOf plan) s x ≡ true → touches (routeOf plan) s y ≡ true → driveAt (order .geometry) x ≡ driveAt (order .geometry) y → blockAt (order .geometry) x ≡ blockAt (order .geometry) y
+  -- 2N/(BD) steps a pass
+  pub steps : total (routeOf plan) ≡ 2 * records (order .geometry) / (block (order .geometry) * drives (order .geometry)) * plan .count
+  -- passes at most rank φ/(m - b) rounded up, plus one
+  pub passes : plan .count ≤ rounds order + 1

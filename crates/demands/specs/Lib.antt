@@ -1,0 +1,4 @@
+-- The three demands, and the trial orders.
+pub mod Demand2
+pub mod Demand3
+pub mod Trials

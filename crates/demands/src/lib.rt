@@ -1,0 +1,1 @@
+// The three demands, stated and proved: specs/ says them, proofs/ proves them. No code.

@@ -1,0 +1,4 @@
+pub mod Judged
+pub mod Accepted
+pub mod Asked
+pub mod Main

@@ -1,0 +1,73 @@
+-- `order::form::spare` meets its contract: a search that passed only zeros, from n on. Assumes nothing.
+use mathlib.Core.Path.{_≡_, ap, sym}
+use mathlib.Core.Bool.{Bool, false, not, _&&_}
+use Prim.Native.Nat.{ℕ, _≤_, _<_, _-_}
+use native.Mathlib.Omega.{arith}
+use borrow.Author.Count.{below-more}
+use borrow.Author.Needs.{needs}
+use borrow.Author.Tests.{le-leb, lt-leb, eq-eqb, ne-eqb}
+use lib.Dec.{eqb, leb}
+use lib.ListN.{getD}
+use Rattle.bank.specs.Limits.{ROWS}
+use Rattle.algebra.proofs.Search.{some-intro, none-intro}
+use Rattle.order.proofs.form.spare.Statement.{statement}
+use Rattle.order.proofs.form.spare.Tie as tie
+
+abbrev Inv-loop : tie.InvT-loop
+Inv-loop rows n i₀ i = (n ≤ i) × (i ≤ ROWS) × ((k : ℕ) → k < i → leb n k && not (eqb (getD rows k 0) 0) ≡ false)
+
+abbrev μ-loop : tie.MeasureT-loop
+μ-loop rows n i₀ i = ROWS - i
+
+loop-holds : tie.Need-loop-holds Inv-loop μ-loop
+loop-holds c =
+    let n = c .args .n in
+    (omega arith, omega arith, λ k h. ap (λ (t : Bool). t && not (eqb (getD (c .args .rows .now) k 0) 0)) (lt-leb n k h))
+
+mul-if1 : tie.Need-mul-if1 Inv-loop μ-loop
+mul-if1 c = search needs
+
+element-copy-out-if1 : tie.Need-element-copy-out-if1 Inv-loop μ-loop
+element-copy-out-if1 c = search needs
+
+returns : tie.Need-returns Inv-loop μ-loop
+returns c =
+    let a = c .before .before .before .before .args in
+    let i = c .before .before .before .loop .i in
+    sym (some-intro (λ i. leb (a .n) i && not (eqb (getD (a .rows .now) i 0) 0)) ROWS i (omega arith) (rw (le-leb (a .n) i (omega arith), ne-eqb _ _ (c .if1 .taken))))
+
+add-i : tie.Need-add-i Inv-loop μ-loop
+add-i c = search needs
+
+loop-less : tie.Need-loop-less Inv-loop μ-loop
+loop-less c = search needs
+
+loop-again : tie.Need-loop-again Inv-loop μ-loop
+loop-again c =
+    let a = c .before .before .before .before .args in
+    let i = c .before .before .before .loop .i in (
+      omega arith,
+      omega arith,
+      below-more (λ k. leb (a .n) k && not (eqb (getD (a .rows .now) k 0) 0) ≡ false) i (c .before .before .before .loop .inv .2)
+          (rw (le-leb (a .n) i (omega arith), eq-eqb _ _ (c .if1 .left))),
+    )
+
+returns-2 : tie.Need-returns-2 Inv-loop μ-loop
+returns-2 c =
+    let a = c .before .before .args in
+    sym (none-intro (λ i. leb (a .n) i && not (eqb (getD (a .rows .now) i 0) 0)) ROWS (λ k h. c .before .loop .inv .2 k (omega arith)))
+
+pub spare-spec : {M : Type 1} → statement M
+spare-spec =
+    tie.close
+    (tie.spec
+    Inv-loop
+    μ-loop
+    loop-holds
+    mul-if1
+    element-copy-out-if1
+    returns
+    add-i
+    loop-less
+    loop-again
+    returns-2)

@@ -1,0 +1,39 @@
+-- Where does an order send an address, and where does one come from? Assumes nothing.
+use mathlib.Core.List.{List, [], _∷_}
+use Prim.Native.Nat.{ℕ}
+use lib.Dec.{leb}
+use Rattle.bank.specs.Geometry.{records}
+use Rattle.bank.specs.Checks.{refuse, orElse, handed}
+use Rattle.algebra.specs.Matrix.{target, source}
+use Rattle.order.specs.Order.{matrixOf, judgement}
+use Rattle.order.specs.declared.Order.{Order}
+use Rattle.order.specs.declared.address.Target.{Target}
+use Rattle.order.specs.declared.address.Source.{Source}
+use Rattle.order.specs.declared.address.Source.the-variants.{From, Refused}
+
+-- the number of an address question: the order's own, then 10 for an address of N or more
+unfoldable pub questionNumber : Order → ℕ → ℕ
+questionNumber order x = orElse (judgement order) (refuse (leb (records (order .geometry)) x) 10 0)
+
+-- where the order sends x: Ax xor c with 0, and address 0 with a refusal
+unfoldable pub targetOf : Order → ℕ → Target
+targetOf order x =
+    record { number = questionNumber order x; address = record { 0 = handed (questionNumber order x) (target (matrixOf order) (order .complement) x) 0 } }
+
+-- an answer to a question backwards: its number, and the source, where there is one
+pub record Found : Type 0 where
+  pub number : ℕ
+  pub sources : List ℕ
+
+-- the number and the values of each case of the answer
+unfoldable pub meaningOf : Source → Found
+meaningOf (From a) = record { number = 0; sources = a .0 ∷ [] }
+meaningOf (Refused k) = record { number = k; sources = [] }
+
+-- the answer for y: the address that A and c send there with 0, and the number alone with a refusal
+unfoldable pub foundFor : Order → ℕ → Found
+foundFor order y =
+    record {
+      number = questionNumber order y;
+      sources = handed (questionNumber order y) (source (order .geometry .n) (matrixOf order) (order .complement) y ∷ []) [];
+    }

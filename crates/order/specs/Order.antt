@@ -1,0 +1,37 @@
+-- Which orders are taken, and by which number is another refused? Assumes nothing.
+use mathlib.Core.Bool.{Bool, not, _&&_, _||_}
+use mathlib.Core.List.{List}
+use Prim.Native.Nat.{ℕ}
+use lib.Dec.{eqb, leb}
+use lib.ListN.{getD, take}
+use Rattle.bank.specs.Limits.{ROWS}
+use Rattle.bank.specs.Geometry.{inLimits, records}
+use Rattle.bank.specs.Checks.{refuse}
+use Rattle.algebra.specs.Search.{some}
+use Rattle.algebra.specs.Matrix.{singular}
+use Rattle.order.specs.declared.Order.{Order}
+
+-- A: the first n rows
+abbrev pub matrixOf : Order → List ℕ
+matrixOf order = take (order .geometry .n) (order .rows)
+
+-- a row of A has a bit at n or above
+unfoldable pub strayRow : Order → Bool
+strayRow order = some (λ i. leb (records (order .geometry)) (getD (order .rows) i 0)) (order .geometry .n)
+
+-- c has
+unfoldable pub strayComplement : Order → Bool
+strayComplement order = leb (records (order .geometry)) (order .complement)
+
+-- a row place beyond n isn't zero
+unfoldable pub spareRow : Order → Bool
+spareRow order = some (λ i. leb (order .geometry .n) i && not (eqb (getD (order .rows) i 0) 0)) ROWS
+
+-- the order isn't in good form
+unfoldable pub badForm : Order → Bool
+badForm order = strayRow order || strayComplement order || spareRow order
+
+-- the judgement of an order: 1, its geometry is outside the limits; 2, it isn't in good form; 3, A is singular; 0, it is taken
+unfoldable pub judgement : Order → ℕ
+judgement order =
+    refuse (not (inLimits (order .geometry))) 1 (refuse (badForm order) 2 (refuse (singular (order .geometry .n) (matrixOf order)) 3 0))

@@ -1,0 +1,68 @@
+// Addresses both ways.
+ghost use mathlib.Core.Path.{_≡_};
+ghost use Rattle.order.specs.Address.{questionNumber, targetOf, meaningOf, foundFor};
+use crate::Order;
+use crate::judge;
+use bank::Address;
+
+// Where an address goes: the number, and the address that it goes to, 0 where refused.
+pub struct Target {
+    pub number: u8,
+    pub address: Address,
+}
+
+// Where an address comes from, or the number of the refusal.
+pub enum Source {
+    From(Address),
+    Refused(u8),
+}
+
+// The number of an address question: 1, 2, 3 for the order, then 10 for the address.
+pub fn question(order: Order, x: Address) -> u8
+    ensures { λ r. ⌜ r ≡ questionNumber order (x .0) ⌝ }
+{
+    let number = judge(order);
+    if number != 0 {
+        return number;
+    }
+    let g = order.geometry;
+    if bank::power(g.n) <= x.0 {
+        return 10;
+    }
+    0
+}
+
+// Where the order sends x: Ax xor c.
+pub fn target_of(order: Order, x: Address) -> Target
+    ensures { λ r. ⌜ r ≡ targetOf order (x .0) ⌝ }
+{
+    let number = question(order, x);
+    if number != 0 {
+        return Target {
+            number: number,
+            address: Address(0),
+        };
+    }
+    let g = order.geometry;
+    let rows = order.rows;
+    let from = x.0 as u32;
+    let y = matrix::rows::apply(&rows, g.n as usize, from) ^ order.complement;
+    Target {
+        number: 0,
+        address: Address(bank::wide(y)),
+    }
+}
+
+// The one address that the order sends to y.
+pub fn source_of(order: Order, y: Address) -> Source
+    ensures { λ r. ⌜ meaningOf r ≡ foundFor order (y .0) ⌝ }
+{
+    let number = question(order, y);
+    if number != 0 {
+        return Source::Refused(number);
+    }
+    let g = order.geometry;
+    let rows = order.rows;
+    let x = matrix::questions::source(&rows, g.n as usize, order.complement, y.0 as u32);
+    Source::From(Address(bank::wide(x)))
+}

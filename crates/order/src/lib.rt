@@ -1,0 +1,54 @@
+// An order: a matrix and a complement for a bank of drives, its judgement, and addresses both ways.
+pub mod form; // form.rt: stray bits, and places meant to be zero
+pub mod address; // address.rt: where an address goes, and where one comes from
+
+ghost use mathlib.Core.Path.{_≡_};
+ghost use Prim.Native.Nat.{_≤_};
+ghost use Rattle.bank.specs.Limits.{ROWS};
+ghost use Rattle.order.specs.Order.{badForm, judgement};
+use crate::form::spare;
+use crate::form::stray;
+use bank::Geometry;
+use bank::ROWS;
+
+// The order sends address x to Ax xor c: `rows` has the rows of A, `complement` is c.
+pub struct Order {
+    pub geometry: Geometry,
+    pub rows: [u32; ROWS],
+    pub complement: u32,
+}
+
+// Whether the order isn't in good form, in a geometry inside the limits.
+pub fn bad_form(order: Order) -> bool
+    requires { ⌜ order .geometry .n ≤ ROWS ⌝ }
+    ensures { λ r. ⌜ r ≡ badForm order ⌝ }
+{
+    let rows = order.rows;
+    let n = order.geometry.n as usize;
+    let size = bank::power(order.geometry.n);
+    if stray(&rows, n, size) {
+        return true;
+    }
+    if size <= bank::wide(order.complement) {
+        return true;
+    }
+    spare(&rows, n)
+}
+
+// The judgement of an order: 1, 2, 3 or 0, the first that applies.
+pub fn judge(order: Order) -> u8
+    ensures { λ r. ⌜ r ≡ judgement order ⌝ }
+{
+    if !bank::in_limits(order.geometry) {
+        return 1;
+    }
+    if bad_form(order) {
+        return 2;
+    }
+    let rows = order.rows;
+    let n = order.geometry.n as usize;
+    if matrix::questions::is_singular(&rows, n) {
+        return 3;
+    }
+    0
+}

@@ -1,0 +1,10 @@
+pub mod Lower
+pub mod Masks
+pub mod Marked
+pub mod Followed
+pub mod Pairs
+pub mod Steps
+pub mod Places
+pub mod Swapping
+pub mod Erasing
+pub mod Products

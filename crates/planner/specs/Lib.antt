@@ -1,0 +1,2 @@
+-- Sets of columns as numbers.
+pub mod Marks

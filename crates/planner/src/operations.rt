@@ -1,0 +1,102 @@
+// Steps 1 and 2 of planning: P, and A P.
+ghost use mathlib.Core.Path.{_≡_};
+ghost use mathlib.Core.List.{_++_};
+ghost use Prim.Native.Nat.{_<_, _≤_, _+_, _-_, _/_, _^_};
+ghost use lib.ListN.{take, replicate};
+ghost use Rattle.bank.specs.Limits.{ROWS};
+ghost use Rattle.algebra.specs.Matrix.{columns};
+ghost use Rattle.algebra.specs.Search.{which};
+ghost use Rattle.planning.specs.Columns.{adding, after};
+ghost use Rattle.planning.specs.Making.{mate, step1, step2, operations};
+ghost use Rattle.planner.specs.Marks.{placesOf, bare};
+use crate::columns::lower;
+use crate::marks::bare;
+use crate::marks::lowest_of;
+use crate::marks::marks;
+use bank::ROWS;
+use matrix::echelon::eliminate;
+use matrix::echelon::reduce;
+use matrix::rows::columns;
+use matrix::rows::product;
+use matrix::vector::power;
+use matrix::vector::times;
+
+// The columns of A P and of P.
+pub struct Operated {
+    pub cols: [u32; ROWS],
+    pub p: [u32; ROWS],
+}
+
+// The first k of one list of columns and then the first l of another; the places after them hold zero.
+fn followed(first: [u32; ROWS], k: usize, second: [u32; ROWS], l: usize) -> [u32; ROWS]
+    requires { ⌜ (k + l ≤ ROWS) × (first ≡ take k first ++ replicate (ROWS - k) 0) ⌝ }
+    ensures { λ r. ⌜ r ≡ (take k first ++ take l second) ++ replicate (ROWS - (k + l)) 0 ⌝ }
+{
+    let mut both = first;
+    let mut i = 0;
+    while i < l {
+        both[k + i] = second[i];
+        i += 1;
+    }
+    both
+}
+
+// Each column of m..n that is not in the set gets one of the columns n - m.. in it, counted from there; lowest with lowest.
+fn paired(set: u32, n: usize, m: usize) -> [u32; ROWS]
+    requires { ⌜ (m < n) × (n ≤ ROWS) × (set < 2 ^ n) ⌝ }
+    ensures { λ r. ⌜ r ≡ adding (mate (which (bare set m n) n 0) (placesOf m (set / 2 ^ (n - m)))) n ++ replicate (ROWS - n) 0 ⌝ }
+{
+    let mut out = [0u32; ROWS];
+    let mut left = set >> ((n - m) as u32);
+    let mut j = 0;
+    while j < n {
+        let w = times(bare(set, m, n, j), lowest_of(left));
+        out[j] = power(j as u32) ^ w;
+        left = left ^ w;
+        j += 1;
+    }
+    out
+}
+
+// Step 1 as a matrix, for a matrix of n columns.
+pub fn step1(cols: &[u32; ROWS], n: usize, m: usize) -> [u32; ROWS]
+    requires { ⌜ (m < n) × (n ≤ ROWS) ⌝ }
+    ensures { λ r. ⌜ r ≡ step1 n m (take n (now (cols .entry))) ++ replicate (ROWS - n) 0 ⌝ }
+{
+    let delta = lower(cols, m, n, m);
+    let phi = lower(cols, 0, m, m);
+    let both = followed(delta, n - m, phi, m);
+    paired(marks(both, n), n, m)
+}
+
+// Step 2 as a matrix, for a matrix of n columns.
+pub fn step2(cols: &[u32; ROWS], n: usize, m: usize) -> [u32; ROWS]
+    requires { ⌜ (m < n) × (n ≤ ROWS) ⌝ }
+    ensures { λ r. ⌜ r ≡ step2 n m (take n (now (cols .entry))) ++ replicate (ROWS - n) 0 ⌝ }
+{
+    let phi = lower(cols, 0, m, m);
+    let set = marks(phi, m);
+    let e = eliminate(&phi, m);
+    let mut out = [0u32; ROWS];
+    let mut j = 0;
+    while j < n {
+        let r = reduce(e, phi[j], 0);
+        out[j] = power(j as u32) ^ times(bare(set, 0, m, j), r.tag);
+        j += 1;
+    }
+    out
+}
+
+// A P and P, for the matrix A of n rows.
+pub fn operate(rows: &[u32; ROWS], n: usize, m: usize) -> Operated
+    requires { ⌜ (m < n) × (n ≤ ROWS) ⌝ }
+    ensures { λ r. ⌜ (r .cols ≡ after (columns n (take n (now (rows .entry)))) (operations n m (columns n (take n (now (rows .entry))))) ++ replicate (ROWS - n) 0) × (r .p ≡ operations n m (columns n (take n (now (rows .entry)))) ++ replicate (ROWS - n) 0) ⌝ }
+{
+    let a = columns(rows, 0, n, n);
+    let s1 = step1(&a, n, m);
+    let b = product(&s1, &a, n);
+    let s2 = step2(&b, n, m);
+    let p = product(&s2, &s1, n);
+    let cols = product(&p, &a, n);
+    Operated { cols, p }
+}

@@ -1,0 +1,175 @@
+// The trial orders on geometry, form and addresses.
+use crate::say;
+use bank::Address;
+use bank::Geometry;
+use bank::ROWS;
+use order::Order;
+use order::address::Source;
+use order::address::source_of;
+use order::address::target_of;
+
+// G of the trial orders.
+pub fn g() -> Geometry {
+    geometry(4, 1, 1, 2, 8)
+}
+
+pub fn geometry(n: u32, b: u32, d: u32, m: u32, r: u32) -> Geometry {
+    Geometry { n, b, d, m, r }
+}
+
+// An order with four rows.
+pub fn order(g: Geometry, r0: u32, r1: u32, r2: u32, r3: u32, c: u32) -> Order {
+    let mut rows = [0u32; ROWS];
+    rows[0] = r0;
+    rows[1] = r1;
+    rows[2] = r2;
+    rows[3] = r3;
+    Order {
+        geometry: g,
+        rows: rows,
+        complement: c,
+    }
+}
+
+pub fn reversal() -> Order {
+    order(g(), 8, 4, 2, 1, 0)
+}
+
+pub fn identity(c: u32) -> Order {
+    order(g(), 1, 2, 4, 8, c)
+}
+
+pub fn gray() -> Order {
+    order(g(), 3, 6, 12, 8, 0)
+}
+
+pub fn exchange() -> Order {
+    order(g(), 4, 8, 1, 2, 0)
+}
+
+pub fn small() -> Order {
+    order(geometry(2, 0, 0, 1, 8), 2, 1, 0, 0, 0)
+}
+
+// The identity of as many rows as there is room for.
+fn largest(n: u32, r: u32) -> Order {
+    let rows = matrix::rows::identity(ROWS);
+    Order {
+        geometry: geometry(n, 6, 2, 14, r),
+        rows: rows,
+        complement: 0,
+    }
+}
+
+fn forward(asked: &[u8], o: Order, x: u64) {
+    let t = target_of(o, Address(x));
+    say::two(asked, t.number as u64, t.address.0);
+}
+
+fn backward(asked: &[u8], o: Order, y: u64) {
+    let Source::From(x) = source_of(o, Address(y)) else {
+        refusal(asked, o, y);
+        return;
+    };
+    say::two(asked, 0, x.0);
+}
+
+fn refusal(asked: &[u8], o: Order, y: u64) {
+    if let Source::Refused(k) = source_of(o, Address(y)) {
+        say::one(asked, k as u64);
+    }
+}
+
+fn judged(asked: &[u8], o: Order) {
+    say::one(asked, order::judge(o) as u64);
+}
+
+pub fn geometries() {
+    judged(b"G taken", identity(0));
+    judged(b"b = m", order(geometry(4, 2, 0, 2, 8), 1, 2, 4, 8, 0));
+    judged(b"m = n", order(geometry(4, 1, 1, 4, 8), 1, 2, 4, 8, 0));
+    judged(b"b + d = m", order(geometry(4, 1, 2, 3, 8), 1, 2, 4, 8, 0));
+    judged(
+        b"b + d = m + 1",
+        order(geometry(4, 1, 3, 3, 8), 1, 2, 4, 8, 0),
+    );
+    judged(b"n = 24", largest(24, 8));
+    judged(b"n = 25", largest(25, 8));
+    judged(b"R = 64", largest(24, 64));
+    judged(b"R = 65", largest(24, 65));
+    judged(b"R = 0", largest(24, 0));
+    judged(b"n = 1", order(geometry(1, 0, 0, 1, 8), 1, 0, 0, 0, 0));
+    judged(
+        b"24 5 253 6 8",
+        order(geometry(24, 5, 253, 6, 8), 1, 2, 4, 8, 0),
+    );
+    judged(
+        b"b + d past 32 bits",
+        order(geometry(4, 1, 4294967295, 3, 8), 1, 2, 4, 8, 0),
+    );
+}
+
+pub fn forms() {
+    judged(b"G, a row of 16", order(g(), 16, 2, 4, 8, 0));
+    judged(b"G, c = 16", identity(16));
+    judged(
+        b"n = 2, a row place beyond n",
+        order(geometry(2, 0, 0, 1, 8), 2, 1, 1, 0, 0),
+    );
+    judged(
+        b"bad geometry, singular",
+        order(geometry(4, 2, 0, 2, 8), 0, 0, 0, 0, 0),
+    );
+    judged(b"a row of 16, singular", order(g(), 16, 0, 0, 0, 0));
+    judged(
+        b"n = 2, rows 11, 11",
+        order(geometry(2, 0, 0, 1, 8), 3, 3, 0, 0, 0),
+    );
+    judged(
+        b"n = 2, zero rows",
+        order(geometry(2, 0, 0, 1, 8), 0, 0, 0, 0, 0),
+    );
+    judged(b"G, rows 3, 5, 6, 8", order(g(), 3, 5, 6, 8, 0));
+}
+
+pub fn forwards() {
+    forward(b"reversal, 1", reversal(), 1);
+    forward(b"reversal, 3", reversal(), 3);
+    forward(b"reversal, 6", reversal(), 6);
+    forward(b"identity, c = 15, 5", identity(15), 5);
+    forward(b"Gray code, 5", gray(), 5);
+    forward(b"0010 0001 1000 0100, 1", exchange(), 1);
+    forward(b"n = 2, 01 10, 1", small(), 1);
+    forward(b"reversal, address N", reversal(), 16);
+    forward(b"reversal, address 2^32 + 1", reversal(), 4294967297);
+    forward(b"singular, address N", order(g(), 0, 0, 0, 0, 0), 16);
+    forward(
+        b"b = m, address N",
+        order(geometry(4, 2, 0, 2, 8), 1, 2, 4, 8, 0),
+        16,
+    );
+    forward(b"n = 24, address N - 1", largest(24, 8), 16777215);
+    forward(b"n = 24, address N", largest(24, 8), 16777216);
+}
+
+pub fn backwards() {
+    backward(b"reversal, back from 8", reversal(), 8);
+    backward(b"reversal, back from 12", reversal(), 12);
+    backward(b"reversal, back from 6", reversal(), 6);
+    backward(b"identity, c = 15, back from 10", identity(15), 10);
+    backward(b"Gray code, back from 7", gray(), 7);
+    backward(b"0010 0001 1000 0100, back from 4", exchange(), 4);
+    backward(b"n = 2, 01 10, back from 2", small(), 2);
+    backward(b"reversal, back from N", reversal(), 16);
+    backward(b"singular, back from N", order(g(), 0, 0, 0, 0, 0), 16);
+    backward(
+        b"G, a row of 16, back from N",
+        order(g(), 16, 2, 4, 8, 0),
+        16,
+    );
+    backward(
+        b"m = n, back from 1",
+        order(geometry(4, 1, 1, 4, 8), 1, 2, 4, 8, 0),
+        1,
+    );
+}
