@@ -15,7 +15,7 @@ use Rattle.bank.specs.Limits.{ROWS}
 use Rattle.bank.specs.declared.Geometry.{Geometry}
 use Rattle.moving.proofs.Low.{low-regular}
 use Rattle.planning.specs.Pass.{Pass}
-use Rattle.mover.specs.Tables.{Prepared, TablesReady, lowBlocks, lowColumns, passOf, passWith, tablesFor}
+use Rattle.mover.specs.Tables.{Prepared, TablesReady, lowBlocks, lowColumns, passFor, passWith, tablesFor}
 use Rattle.mover.specs.declared.tables.Tables.{Tables}
 
 -- the first d of m units, mapped, with anything after them
@@ -91,7 +91,7 @@ module _ (t : Tables) (k : Prepared t) where
   geo = t .geometry
 
   abbrev low : List ℕ
-  low = inverse (geo .m) (take (geo .m) (passOf t .rows))
+  low = inverse (geo .m) (take (geo .m) (passFor t .rows))
 
   pub all-columns : take (geo .m) (t .columns) ≡ columns (geo .m) low
   all-columns = ap (take (geo .m)) (k .columns-are) ∙ take-at (columns (geo .m) low) (replicate (ROWS - geo .m) 0) (geo .m) (columns-length (geo .m) low)
@@ -105,8 +105,8 @@ module _ (t : Tables) (k : Prepared t) where
       omega (
         arith,
         ap length (k .blocks-are),
-        length-append (lowBlocks geo (passOf t)) (replicate (ROWS - geo .m) 0),
-        length-map (lowColumns geo (passOf t)) (λ v. apply (passOf t .rows) v / block geo),
+        length-append (lowBlocks geo (passFor t)) (replicate (ROWS - geo .m) 0),
+        length-map (lowColumns geo (passFor t)) (λ v. apply (passFor t .rows) v / block geo),
         columns-length (geo .m) low,
       )
 
@@ -122,8 +122,8 @@ module _ (t : Tables) (k : Prepared t) where
     pub part-columns : take (e - o) (drop o (t .columns)) ≡ map (apply low) (units d o)
     part-columns = ap₂ (λ (i : ℕ) (l : List ℕ). take i (drop o l)) long (k .columns-are) ∙ part-low o d (replicate (ROWS - geo .m) 0) (omega arith)
 
-    pub part-blocks : take (e - o) (drop o (t .blocks)) ≡ map (λ v. apply (passOf t .rows) v / block geo) (map (apply low) (units d o))
+    pub part-blocks : take (e - o) (drop o (t .blocks)) ≡ map (λ v. apply (passFor t .rows) v / block geo) (map (apply low) (units d o))
     part-blocks =
         ap₂ (λ (i : ℕ) (l : List ℕ). take i (drop o l)) long (k .blocks-are)
-        ∙ part-map (λ v. apply (passOf t .rows) v / block geo) o d (columns (geo .m) low) (replicate (ROWS - geo .m) 0) (omega (arith, columns-length (geo .m) low))
-        ∙ ap (map (λ v. apply (passOf t .rows) v / block geo)) (ap (λ (l : List ℕ). take d (drop o l)) (sym (append-nil (columns (geo .m) low))) ∙ part-low o d [] (omega arith))
+        ∙ part-map (λ v. apply (passFor t .rows) v / block geo) o d (columns (geo .m) low) (replicate (ROWS - geo .m) 0) (omega (arith, columns-length (geo .m) low))
+        ∙ ap (map (λ v. apply (passFor t .rows) v / block geo)) (ap (λ (l : List ℕ). take d (drop o l)) (sym (append-nil (columns (geo .m) low))) ∙ part-low o d [] (omega arith))

@@ -1,7 +1,7 @@
 -- Which numbers of a bank inside the limits fit a machine word? Assumes nothing.
 use mathlib.Core.Path.{_≡_, sym, ap, subst, _∙_}
 use Prim.Native.Nat.{ℕ, _+_, _-_, _*_, _<_, _≤_, _^_}
-use native.Mathlib.Nat.{add-zero, lt-of-lt-of-le, le-trans, mul-le-mul-left}
+use native.Mathlib.Nat.{add-zero, div-le-self, mul-le-mul-left}
 use native.Mathlib.Omega.{arith}
 use lib.Pow.{pow-mono, pow-pos}
 use Rattle.bank.specs.declared.Geometry.{Geometry}
@@ -17,8 +17,9 @@ module _ (g : Geometry) (ok : Allowed g) where
   pub memory-fit : memory g ≤ records g
   memory-fit = pow-mono {i = g .m} {j = g .n} (omega (arith, ok .memory-below))
 
-  pub power-fits : (k : ℕ) → k ≤ g .n → 2 ^ k < 2 ^ 64
-  power-fits k h = omega (arith, pow-mono {i = k} {j = g .n} h, records-fit)
+  pub stripes-small : stripes g ≤ 2 ^ 32
+  unfolding stripes
+  stripes-small = omega (arith, div-le-self (memory g) (block g * drives g), memory-fit, records-fit)
 
   module _ (turn : ℕ) (ht : turn < stripes g) where
     pub start-is : blockStart g turn 0 ≡ turn * drives g * block g

@@ -26,7 +26,7 @@ use Rattle.mover.proofs.Columns.{all-columns, part-blocks, part-columns
 use Rattle.mover.proofs.Parts.{share}
 use Rattle.mover.proofs.Sizes.{memory-fit, records-fit, start-lt}
 use Rattle.mover.specs.Places.{onDrives, placeBy, placeOn}
-use Rattle.mover.specs.Tables.{ReadReady, WriteReady, passOf}
+use Rattle.mover.specs.Tables.{ReadReady, WriteReady, passFor}
 use Rattle.mover.specs.declared.tables.Tables.{Tables}
 
 -- ---- a read, and what is common to both
@@ -123,7 +123,7 @@ module _ (t : Tables) (load turn : ℕ) (area mem : List ℕ) (k : WriteReady t 
   g = t .geometry
 
   abbrev pass : Pass
-  pass = passOf t
+  pass = passFor t
 
   abbrev B : ℕ
   B = block g

@@ -37,8 +37,8 @@ tablesFor g p rows c =
     }
 
 -- the pass that tables are for
-abbrev pub passOf : Tables → Pass
-passOf t = passWith (t .geometry) (t .rows) (t .complement)
+abbrev pub passFor : Tables → Pass
+passFor t = passWith (t .geometry) (t .rows) (t .complement)
 
 -- a pass that has tables
 pub record TablesReady (g : Geometry) (rows : List ℕ) (c : ℕ) : Type 0 where
@@ -48,8 +48,8 @@ pub record TablesReady (g : Geometry) (rows : List ℕ) (c : ℕ) : Type 0 where
 -- tables that are those of their pass
 pub record Prepared (t : Tables) : Type 0 where
   pub ready : TablesReady (t .geometry) (t .rows) (t .complement)
-  pub columns-are : t .columns ≡ lowColumns (t .geometry) (passOf t) ++ replicate (ROWS - t .geometry .m) 0
-  pub blocks-are : t .blocks ≡ lowBlocks (t .geometry) (passOf t) ++ replicate (ROWS - t .geometry .m) 0
+  pub columns-are : t .columns ≡ lowColumns (t .geometry) (passFor t) ++ replicate (ROWS - t .geometry .m) 0
+  pub blocks-are : t .blocks ≡ lowBlocks (t .geometry) (passFor t) ++ replicate (ROWS - t .geometry .m) 0
 
 -- a read, and a write, that is one of the load's, on buffers of their lengths
 pub record ReadReady (g : Geometry) (load turn : ℕ) (area mem : List ℕ) : Type 0 where

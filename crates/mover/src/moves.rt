@@ -6,7 +6,7 @@ ghost use lib.ListN.{length};
 ghost use Rattle.moving.specs.Bytes.{copied, laid};
 ghost use Rattle.moving.specs.Step.{readTakes, readFrom, writeTakes, writeFrom};
 ghost use Rattle.mover.specs.Places.{placeBy, inBlock, onDrives, placeIn, placeOn};
-ghost use Rattle.mover.specs.Tables.{ReadReady, WriteReady, passOf};
+ghost use Rattle.mover.specs.Tables.{ReadReady, WriteReady, passFor};
 use crate::bytes::copy_part;
 use crate::bytes::fill_block;
 use crate::bytes::flip;
@@ -121,7 +121,7 @@ pub fn read_step(memory: &mut [u8], area: &[u8], g: Geometry, load: u64, turn: u
 // Write turn of a load: on each drive, one block of the area is filled from memory, which stays.
 pub fn write_step(area: &mut [u8], memory: &[u8], t: Tables, load: u64, turn: u64)
     requires { ⌜ WriteReady t load turn (now area) (now memory) ⌝ }
-    ensures { λ _. ⌜ now (area .exit) ≡ copied (writeTakes (t .geometry) (passOf t) load turn) (writeFrom (t .geometry) (passOf t)) (t .geometry .r) (now (memory .entry)) (now (area .entry)) ⌝ }
+    ensures { λ _. ⌜ now (area .exit) ≡ copied (writeTakes (t .geometry) (passFor t) load turn) (writeFrom (t .geometry) (passFor t)) (t .geometry .r) (now (memory .entry)) (now (area .entry)) ⌝ }
 {
     let g = t.geometry;
     let first = Address(load * power(g.m));

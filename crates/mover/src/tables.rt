@@ -10,7 +10,7 @@ ghost use Rattle.bank.specs.Geometry.{block, memory, records, stripes};
 ghost use Rattle.algebra.specs.Vector.{comb};
 ghost use Rattle.algebra.specs.Matrix.{apply, target};
 ghost use Rattle.moving.specs.Blocks.{blockStart};
-ghost use Rattle.mover.specs.Tables.{tablesFor, TablesReady, passOf};
+ghost use Rattle.mover.specs.Tables.{tablesFor, TablesReady, passFor};
 use bank::Address;
 use bank::Block;
 use bank::Geometry;
@@ -66,7 +66,7 @@ pub fn tables_for(g: Geometry, pass: u64, rows: [u32; ROWS], complement: u32) ->
 // Where the pass sends the record at x.
 pub fn goes_to(t: Tables, x: Address) -> Address
     requires { ⌜ Allowed (t .geometry) × (x .0 < records (t .geometry)) ⌝ }
-    ensures { λ r. ⌜ r .0 ≡ target (passOf t .rows) (t .complement) (x .0) ⌝ }
+    ensures { λ r. ⌜ r .0 ≡ target (passFor t .rows) (t .complement) (x .0) ⌝ }
 {
     let rows = t.rows;
     let y = apply(&rows, t.geometry.n as usize, x.0 as u32) ^ t.complement;
@@ -88,7 +88,7 @@ pub fn first_place(t: Tables, goes: Address, turn: u64) -> u32
 // That block.
 pub fn first_block(t: Tables, goes: Address, place: u32) -> Block
     requires { ⌜ Allowed (t .geometry) ⌝ }
-    ensures { λ r. ⌜ r .0 ≡ bitXor (apply (passOf t .rows) place) (goes .0) / block (t .geometry) ⌝ }
+    ensures { λ r. ⌜ r .0 ≡ bitXor (apply (passFor t .rows) place) (goes .0) / block (t .geometry) ⌝ }
 {
     let rows = t.rows;
     let y = apply(&rows, t.geometry.n as usize, place) as u64 ^ goes.0;

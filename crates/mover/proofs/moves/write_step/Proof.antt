@@ -9,7 +9,7 @@ use Rattle.bank.specs.Geometry.{memory}
 use Rattle.mover.proofs.Columns.{blocks-room, columns-room}
 use Rattle.mover.proofs.Sizes.{records-fit}
 use Rattle.mover.proofs.Steps.{in-area, in-memory, load-lt, on-drive, size-pos, write-is}
-use Rattle.mover.specs.Tables.{passOf}
+use Rattle.mover.specs.Tables.{passFor}
 use borrow.Author.Needs.{needs}
 use Rattle.mover.proofs.moves.write_step.Statement.{statement}
 use Rattle.mover.proofs.moves.write_step.Tie as tie
@@ -96,8 +96,8 @@ write-drives-requires c κs =
     let goes = c .before .before .before .before .before .before .before .before .before .before .before .before .before .before .before .before .before .goes-to in
     let place = c .before .before .before .before .before .before .before .before .before .before .before .before .before .before .before .before .first-place in
     let first = c .before .before .before .before .before .before .before .before .before .before .before .before .before .before .before .first-block in
-    let eg : goes .result .0 ≡ target (passOf (s .args .t) .rows) (s .args .t .complement) (s .args .load * memory g) =
-        goes .ensures ∙ ap (λ (k : ℕ). target (passOf (s .args .t) .rows) (s .args .t .complement) (s .args .load * k)) (c .before .before .before .before .before .before .before .before .before .before .before .before .before .before .before .before .before .before .power .ensures) in
+    let eg : goes .result .0 ≡ target (passFor (s .args .t) .rows) (s .args .t .complement) (s .args .load * memory g) =
+        goes .ensures ∙ ap (λ (k : ℕ). target (passFor (s .args .t) .rows) (s .args .t .complement) (s .args .load * k)) (c .before .before .before .before .before .before .before .before .before .before .before .before .before .before .before .before .before .before .power .ensures) in
     rw (c .before .before .power2 .ensures, c .before .power3 .ensures) ((size-pos g (s .args .load) (s .args .turn) (s .args .area .now) (s .args .memory .now) (s .pre .within), pow-pos (g .d)), (on-drive (s .args .t) (s .args .load) (s .args .turn) (s .args .area .now) (s .args .memory .now) (s .pre) (goes .result .0) (place .result) (first .result .0) eg (place .ensures) (first .ensures), (in-area (s .args .t) (s .args .load) (s .args .turn) (s .args .area .now) (s .args .memory .now) (s .pre) (goes .result .0) (place .result) (first .result .0) eg (place .ensures) (first .ensures), in-memory (s .args .t) (s .args .load) (s .args .turn) (s .args .area .now) (s .args .memory .now) (s .pre) (goes .result .0) (place .result) (first .result .0) eg (place .ensures) (first .ensures))))
 
 same-length : tie.Need-same-length
@@ -110,8 +110,8 @@ returns c =
     let goes = c .before .before .before .before .before .before .before .before .before .before .before .before .before .before .before .before .before .before .before .before .goes-to in
     let place = c .before .before .before .before .before .before .before .before .before .before .before .before .before .before .before .before .before .before .before .first-place in
     let first = c .before .before .before .before .before .before .before .before .before .before .before .before .before .before .before .before .before .before .first-block in
-    let eg : goes .result .0 ≡ target (passOf (s .args .t) .rows) (s .args .t .complement) (s .args .load * memory g) =
-        goes .ensures ∙ ap (λ (k : ℕ). target (passOf (s .args .t) .rows) (s .args .t .complement) (s .args .load * k)) (c .before .before .before .before .before .before .before .before .before .before .before .before .before .before .before .before .before .before .before .before .before .power .ensures) in
+    let eg : goes .result .0 ≡ target (passFor (s .args .t) .rows) (s .args .t .complement) (s .args .load * memory g) =
+        goes .ensures ∙ ap (λ (k : ℕ). target (passFor (s .args .t) .rows) (s .args .t .complement) (s .args .load * k)) (c .before .before .before .before .before .before .before .before .before .before .before .before .before .before .before .before .before .before .before .before .before .power .ensures) in
     c .before .before .write-drives .ensures
     ∙ rw (c .before .before .before .before .before .power2 .ensures, c .before .before .before .before .power3 .ensures) (write-is (s .args .t) (s .args .load) (s .args .turn) (s .args .area .now) (s .args .memory .now) (s .pre) (goes .result .0) (place .result) (first .result .0) eg (place .ensures) (first .ensures))
 
