@@ -6,3 +6,5 @@ pub mod Drives
 pub mod Columns
 pub mod Sizes
 pub mod Steps
+pub mod Sides
+pub mod Plans

@@ -4,3 +4,5 @@ pub mod Promise
 pub mod Places
 pub mod Tables
 pub mod Turns
+pub mod Moving
+pub mod Numbers

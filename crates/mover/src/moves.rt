@@ -6,6 +6,8 @@ ghost use lib.ListN.{length};
 ghost use Rattle.moving.specs.Bytes.{copied, laid};
 ghost use Rattle.moving.specs.Step.{readTakes, readFrom, writeTakes, writeFrom};
 ghost use Rattle.mover.specs.Places.{placeBy, inBlock, onDrives, placeIn, placeOn};
+ghost use Rattle.mover.specs.Promise.{buffersOf};
+ghost use Rattle.mover.specs.Moving.{BetweenReady, MoveReady, moveBy, toAfter, memoryAfter};
 ghost use Rattle.mover.specs.Tables.{ReadReady, WriteReady, passFor};
 use crate::bytes::copy_part;
 use crate::bytes::fill_block;
@@ -14,9 +16,12 @@ use crate::tables::Tables;
 use crate::tables::first_block;
 use crate::tables::first_place;
 use crate::tables::goes_to;
+use crate::turns::Turn;
+use crate::turns::turn_of;
 use bank::Address;
 use bank::Block;
 use bank::Geometry;
+use bank::Step;
 use bank::power;
 
 // The block of size bytes goes to memory's index at.
@@ -145,4 +150,33 @@ pub fn write_step(area: &mut [u8], memory: &[u8], t: Tables, load: u64, turn: u6
         power(g.b) as usize,
         g.r as usize,
     );
+}
+
+// A turn of a pass that reads the one area and writes the other.
+fn move_between(from: &[u8], to: &mut [u8], memory: &mut [u8], t: Tables, at: Turn)
+    requires { ⌜ BetweenReady t at (now from) (now to) (now memory) ⌝ }
+    ensures { λ _. ⌜ (now (to .exit) ≡ toAfter t at (now (to .entry)) (now (memory .entry))) × (now (memory .exit) ≡ memoryAfter t at (now (from .entry)) (now (memory .entry))) ⌝ }
+{
+    let load = at.load;
+    let turn = at.turn;
+    let phase = at.phase;
+    if phase == 0 {
+        read_step(memory, from, t.geometry, load, turn);
+    } else {
+        write_step(to, memory, t, load, turn);
+    }
+}
+
+// The move of a step of the tables' pass. Even passes read area 0.
+pub fn move_step(t: Tables, s: Step, area0: &mut [u8], area1: &mut [u8], memory: &mut [u8])
+    requires { ⌜ MoveReady t (buffersOf (now area0) (now area1) (now memory)) ⌝ }
+    ensures { λ _. ⌜ buffersOf (now (area0 .exit)) (now (area1 .exit)) (now (memory .exit)) ≡ moveBy t (s .0) (buffersOf (now (area0 .entry)) (now (area1 .entry)) (now (memory .entry))) ⌝ }
+{
+    let at = turn_of(t.geometry, s);
+    let side = t.pass % 2;
+    if side == 0 {
+        move_between(area0, area1, memory, t, at);
+    } else {
+        move_between(area1, area0, memory, t, at);
+    }
 }

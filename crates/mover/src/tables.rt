@@ -10,6 +10,9 @@ ghost use Rattle.bank.specs.Geometry.{block, memory, records, stripes};
 ghost use Rattle.algebra.specs.Vector.{comb};
 ghost use Rattle.algebra.specs.Matrix.{apply, target};
 ghost use Rattle.moving.specs.Blocks.{blockStart};
+ghost use Rattle.planning.specs.Stored.{routeOf};
+ghost use Rattle.planning.proofs.Runs.{Runs};
+ghost use Rattle.mover.specs.Moving.{tablesOf};
 ghost use Rattle.mover.specs.Tables.{tablesFor, TablesReady, passFor};
 use bank::Address;
 use bank::Block;
@@ -19,6 +22,8 @@ use matrix::questions::inverse_columns;
 use bank::power;
 use matrix::rows::apply;
 use matrix::vector::sum;
+use plan::store::pass_rows;
+use planning::Plan;
 
 // The pass's rows and complement; the columns of the inverse of its low m by m part; what the pass makes of those, in blocks.
 pub struct Tables {
@@ -61,6 +66,18 @@ pub fn tables_for(g: Geometry, pass: u64, rows: [u32; ROWS], complement: u32) ->
         columns: columns,
         blocks: blocks,
     }
+}
+
+// The tables of pass p of a plan that can run.
+pub fn tables_of(plan: Plan, p: u64) -> Tables
+    requires { ⌜ Runs (routeOf plan) × (p < plan .count) ⌝ }
+    ensures { λ r. ⌜ r ≡ tablesOf plan p ⌝ }
+{
+    let at = p as usize;
+    let all = plan.rows;
+    let complements = plan.complements;
+    let rows = pass_rows(&all, at);
+    tables_for(plan.geometry, p, rows, complements[at])
 }
 
 // Where the pass sends the record at x.
