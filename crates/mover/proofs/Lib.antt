@@ -8,3 +8,4 @@ pub mod Sizes
 pub mod Steps
 pub mod Sides
 pub mod Plans
+pub mod Asked

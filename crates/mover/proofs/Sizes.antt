@@ -21,6 +21,13 @@ module _ (g : Geometry) (ok : Allowed g) where
   unfolding stripes
   stripes-small = omega (arith, div-le-self (memory g) (block g * drives g), memory-fit, records-fit)
 
+  -- the bytes of an area, and of memory
+  pub area-fits : records g * g .r < 2 ^ 64
+  area-fits = omega (arith, mul-le-mul-left (records g) (ok .r-high), records-fit)
+
+  pub memory-fits : memory g * g .r < 2 ^ 64
+  memory-fits = omega (arith, mul-le-mul-left (memory g) (ok .r-high), memory-fit, records-fit)
+
   module _ (turn : ℕ) (ht : turn < stripes g) where
     pub start-is : blockStart g turn 0 ≡ turn * drives g * block g
     start-is = ap (λ (k : ℕ). k * block g) (add-zero (turn * drives g))
