@@ -25,7 +25,7 @@ unfolding columns
 columns-lt n rows i h = col-lt (apply rows) n n 0 i (λ x. lt-of-lt-of-le (apply-lt rows x) (pow-mono h))
 
 -- what stands at a place
-map-at : (f : ℕ → ℕ) (l : List ℕ) (i : ℕ) → i < length l → getD (map f l) i 0 ≡ f (getD l i 0)
+pub map-at : (f : ℕ → ℕ) (l : List ℕ) (i : ℕ) → i < length l → getD (map f l) i 0 ≡ f (getD l i 0)
 map-at f [] i h = absurd (not-suc-le-zero h)
 map-at f (x ∷ l) zero h = refl
 map-at f (x ∷ l) (suc i) h = map-at f l i (le-of-suc-le-suc h)

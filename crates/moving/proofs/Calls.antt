@@ -171,7 +171,7 @@ module _ (plan : Plan) (moment : Moment) (asked : ℕ) (done : stepNumber plan m
 
 -- ---- a run
 
-from-from : (route : Route) (s j k : ℕ) (v : Buffers) → movesFrom route (s + j) k (movesFrom route s j v) ≡ movesFrom route s (j + k) v
+pub from-from : (route : Route) (s j k : ℕ) (v : Buffers) → movesFrom route (s + j) k (movesFrom route s j v) ≡ movesFrom route s (j + k) v
 unfolding movesFrom
 from-from route s j zero v = ap (λ (i : ℕ). movesFrom route s i v) (sym (add-zero j))
 from-from route s j (suc k) v =

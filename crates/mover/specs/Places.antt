@@ -1,0 +1,36 @@
+-- Which places does code go through, one after the other? Assumes nothing.
+use mathlib.Core.Bool.{Bool, true, cond}
+use mathlib.Core.List.{List, [], _∷_}
+use Prim.Native.Nat.{ℕ, _/_, _%_}
+use lib.Bits.{bitXor}
+use lib.Dec.{eqb}
+use Rattle.algebra.specs.Vector.{comb}
+
+-- place k: the base, and the columns that k picks
+abbrev pub placeBy : ℕ → List ℕ → ℕ → ℕ
+placeBy base columns k = bitXor base (comb columns k)
+
+-- what the place changes by from k to k + 1: the columns up to the first zero bit of k, that column too
+unfoldable pub flips : List ℕ → ℕ → ℕ
+flips [] k = 0
+flips (c ∷ cs) k = bitXor c (cond (eqb (k % 2) 0) 0 (flips cs (k / 2)))
+
+-- every record is moved
+abbrev pub every : ℕ → Bool
+every k = true
+
+-- record x of an area lies in block y, where a block is of count records
+abbrev pub inBlock : ℕ → ℕ → ℕ → Bool
+inBlock count y x = eqb (x / count) y
+
+-- the place for record x, as the record of its block that it is
+abbrev pub placeIn : ℕ → ℕ → List ℕ → ℕ → ℕ
+placeIn count base columns x = placeBy base columns (x % count)
+
+-- record x lies in the block Y q of its drive q; block y lies on drive y % D
+abbrev pub onDrives : ℕ → ℕ → (ℕ → ℕ) → ℕ → Bool
+onDrives count D Y x = eqb (x / count) (Y (x / count % D))
+
+-- the place for record x: P q is that of the first record of drive q's block
+abbrev pub placeOn : ℕ → ℕ → (ℕ → ℕ) → List ℕ → ℕ → ℕ
+placeOn count D P columns x = placeBy (P (x / count % D)) columns (x % count)
