@@ -8,7 +8,7 @@ use native.Mathlib.Omega.{arith}
 use borrow.Author.Tests.{eq-eqb, lt-ltb, ne-eqb}
 use lib.Dec.{eqb, ltb}
 use lib.ListN.{length}
-use Rattle.bank.proofs.Limits.{and-both}
+use Rattle.algebra.proofs.Search.{and-both}
 use Rattle.bank.specs.Checks.{refuse}
 use Rattle.bank.specs.Limits.{PASSES, ROWS}
 use Rattle.moving.proofs.Calls.{Ready, by-step, can→ready, refused-keeps, refused-run, refused-count, run-count, run-next, run-ready, step-done, step-nine, zero-means}
