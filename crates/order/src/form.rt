@@ -1,16 +1,14 @@
-// The form of rows: which bits and which places must be zero.
+// The form of rows and complements: which bits and which places must be zero.
 ghost use mathlib.Core.Path.{_≡_};
 ghost use mathlib.Core.Bool.{not, _&&_};
 ghost use Prim.Native.Nat.{_≤_};
 ghost use lib.Dec.{eqb, leb};
-ghost use lib.ListN.{getD};
-ghost use Rattle.bank.specs.Limits.{ROWS};
+ghost use lib.ListN.{getD, length};
 ghost use Rattle.algebra.specs.Search.{some};
-use bank::ROWS;
 
-// Whether one of the first n rows is size or more.
-pub fn stray(rows: &[u32; ROWS], n: usize, size: u64) -> bool
-    requires { ⌜ n ≤ ROWS ⌝ }
+// Whether one of the first n numbers is size or more.
+pub fn stray(rows: &[u32], n: usize, size: u64) -> bool
+    requires { ⌜ n ≤ length (now rows) ⌝ }
     ensures { λ r. ⌜ r ≡ some (λ i. leb size (getD (now (rows .entry)) i 0)) n ⌝ }
 {
     let mut i = 0;
@@ -23,13 +21,13 @@ pub fn stray(rows: &[u32; ROWS], n: usize, size: u64) -> bool
     false
 }
 
-// Whether a row place from n on isn't zero.
-pub fn spare(rows: &[u32; ROWS], n: usize) -> bool
-    requires { ⌜ n ≤ ROWS ⌝ }
-    ensures { λ r. ⌜ r ≡ some (λ i. leb n i && not (eqb (getD (now (rows .entry)) i 0) 0)) ROWS ⌝ }
+// Whether a place from n on isn't zero.
+pub fn spare(rows: &[u32], n: usize) -> bool
+    requires { ⌜ n ≤ length (now rows) ⌝ }
+    ensures { λ r. ⌜ r ≡ some (λ i. leb n i && not (eqb (getD (now (rows .entry)) i 0) 0)) (length (now (rows .entry))) ⌝ }
 {
     let mut i = n;
-    while i < ROWS {
+    while i < rows.len() {
         if rows[i] != 0 {
             return true;
         }

@@ -51,14 +51,8 @@ fn stray_complements(complements: &[u32; PASSES], count: usize, size: u64) -> bo
     requires { ⌜ count ≤ PASSES ⌝ }
     ensures { λ r. ⌜ r ≡ some (λ p. leb size (getD (now (complements .entry)) p 0)) count ⌝ }
 {
-    let mut p = 0;
-    while p < count {
-        if size <= bank::wide(complements[p]) {
-            return true;
-        }
-        p += 1;
-    }
-    false
+    let all = &complements[..];
+    order::form::stray(all, count, size)
 }
 
 // Whether place q is meant to hold zero, and the row there isn't zero.
@@ -93,14 +87,8 @@ fn spare_complements(complements: &[u32; PASSES], count: usize) -> bool
     requires { ⌜ count ≤ PASSES ⌝ }
     ensures { λ r. ⌜ r ≡ some (λ p. leb count p && not (eqb (getD (now (complements .entry)) p 0) 0)) PASSES ⌝ }
 {
-    let mut p = count;
-    while p < PASSES {
-        if complements[p] != 0 {
-            return true;
-        }
-        p += 1;
-    }
-    false
+    let all = &complements[..];
+    order::form::spare(all, count)
 }
 
 // Whether a used pass is singular.

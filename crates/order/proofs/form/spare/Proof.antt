@@ -7,17 +7,16 @@ use borrow.Author.Count.{below-more}
 use borrow.Author.Needs.{needs}
 use borrow.Author.Tests.{le-leb, lt-leb, eq-eqb, ne-eqb}
 use lib.Dec.{eqb, leb}
-use lib.ListN.{getD}
-use Rattle.bank.specs.Limits.{ROWS}
+use lib.ListN.{getD, length}
 use Rattle.algebra.proofs.Search.{some-intro, none-intro}
 use Rattle.order.proofs.form.spare.Statement.{statement}
 use Rattle.order.proofs.form.spare.Tie as tie
 
 abbrev Inv-loop : tie.InvT-loop
-Inv-loop rows n i₀ i = (n ≤ i) × (i ≤ ROWS) × ((k : ℕ) → k < i → leb n k && not (eqb (getD rows k 0) 0) ≡ false)
+Inv-loop rows n i₀ i = (n ≤ i) × (i ≤ length rows) × ((k : ℕ) → k < i → leb n k && not (eqb (getD rows k 0) 0) ≡ false)
 
 abbrev μ-loop : tie.MeasureT-loop
-μ-loop rows n i₀ i = ROWS - i
+μ-loop rows n i₀ i = length rows - i
 
 loop-holds : tie.Need-loop-holds Inv-loop μ-loop
 loop-holds c =
@@ -27,14 +26,14 @@ loop-holds c =
 mul-if1 : tie.Need-mul-if1 Inv-loop μ-loop
 mul-if1 c = search needs
 
-element-copy-out-if1 : tie.Need-element-copy-out-if1 Inv-loop μ-loop
-element-copy-out-if1 c = search needs
+shared-slice-read-if1 : tie.Need-shared-slice-read-if1 Inv-loop μ-loop
+shared-slice-read-if1 c = search needs
 
 returns : tie.Need-returns Inv-loop μ-loop
 returns c =
     let a = c .before .before .before .before .args in
     let i = c .before .before .before .loop .i in
-    sym (some-intro (λ i. leb (a .n) i && not (eqb (getD (a .rows .now) i 0) 0)) ROWS i (omega arith) (rw (le-leb (a .n) i (omega arith), ne-eqb _ _ (c .if1 .taken))))
+    sym (some-intro (λ i. leb (a .n) i && not (eqb (getD (a .rows .now) i 0) 0)) (length (a .rows .now)) i (omega arith) (rw (le-leb (a .n) i (omega arith), ne-eqb _ _ (c .if1 .taken))))
 
 add-i : tie.Need-add-i Inv-loop μ-loop
 add-i c = search needs
@@ -55,7 +54,7 @@ loop-again c =
 returns-2 : tie.Need-returns-2 Inv-loop μ-loop
 returns-2 c =
     let a = c .before .before .args in
-    sym (none-intro (λ i. leb (a .n) i && not (eqb (getD (a .rows .now) i 0) 0)) ROWS (λ k h. c .before .loop .inv .2 k (omega arith)))
+    sym (none-intro (λ i. leb (a .n) i && not (eqb (getD (a .rows .now) i 0) 0)) (length (a .rows .now)) (λ k h. c .before .loop .inv .2 k (omega arith)))
 
 pub spare-spec : {M : Type 1} → statement M
 spare-spec =
@@ -65,7 +64,7 @@ spare-spec =
     μ-loop
     loop-holds
     mul-if1
-    element-copy-out-if1
+    shared-slice-read-if1
     returns
     add-i
     loop-less

@@ -24,15 +24,15 @@ loop-holds c = (omega arith, λ k h. absurd (omega arith))
 mul-wide : tie.Need-mul-wide Inv-loop μ-loop
 mul-wide c = search needs
 
-element-copy-out-wide : tie.Need-element-copy-out-wide Inv-loop μ-loop
-element-copy-out-wide c = search needs
+shared-slice-read-wide : tie.Need-shared-slice-read-wide Inv-loop μ-loop
+shared-slice-read-wide c = search needs
 
 wide-requires : tie.Need-wide-requires Inv-loop μ-loop
 wide-requires c κs = search needs
 
 returns : tie.Need-returns Inv-loop μ-loop
 returns c =
-    let a = c .before .before .before .before .before .args in
+    let a = c .before .before .before .before .before .before .args in
     let i = c .before .before .before .before .loop .i in
     sym (some-intro (λ i. leb (a .size) (getD (a .rows .now) i 0)) (a .n) i (omega arith) (le-leb (a .size) (getD (a .rows .now) i 0) (omega (arith, c .before .wide .ensures))))
 
@@ -44,7 +44,7 @@ loop-less c = search needs
 
 loop-again : tie.Need-loop-again Inv-loop μ-loop
 loop-again c =
-    let a = c .before .before .before .before .before .args in
+    let a = c .before .before .before .before .before .before .args in
     let i = c .before .before .before .before .loop .i in (
       omega arith,
       below-more (λ k. leb (a .size) (getD (a .rows .now) k 0) ≡ false) i (c .before .before .before .before .loop .inv .1)
@@ -53,7 +53,7 @@ loop-again c =
 
 returns-2 : tie.Need-returns-2 Inv-loop μ-loop
 returns-2 c =
-    let a = c .before .before .args in
+    let a = c .before .before .before .args in
     sym (none-intro (λ i. leb (a .size) (getD (a .rows .now) i 0)) (a .n) (λ k h. c .before .loop .inv .1 k (omega arith)))
 
 pub stray-spec : {M : Type 1} → statement M
@@ -64,7 +64,7 @@ stray-spec =
     μ-loop
     loop-holds
     mul-wide
-    element-copy-out-wide
+    shared-slice-read-wide
     wide-requires
     returns
     add-i

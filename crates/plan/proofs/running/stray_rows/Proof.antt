@@ -26,6 +26,9 @@ loop-holds c = (omega arith, λ k h. absurd (omega arith))
 pass-rows-requires : tie.Need-pass-rows-requires Inv-loop μ-loop
 pass-rows-requires c κs = search needs
 
+slice-aggregate-stray : tie.Need-slice-aggregate-stray Inv-loop μ-loop
+slice-aggregate-stray c = search needs
+
 stray-requires : tie.Need-stray-requires Inv-loop μ-loop
 stray-requires c κs = search needs
 
@@ -64,6 +67,7 @@ stray-rows-spec =
     μ-loop
     loop-holds
     pass-rows-requires
+    slice-aggregate-stray
     stray-requires
     returns
     add-p
