@@ -1,0 +1,4 @@
+-- Order texts and listings.
+pub mod Lines
+pub mod OrderText
+pub mod Reading
