@@ -2,3 +2,4 @@
 pub mod Lines
 pub mod OrderText
 pub mod Reading
+pub mod Parsing

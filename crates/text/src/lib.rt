@@ -1,2 +1,4 @@
 // Order texts read, and listings written, on slices.
+pub mod number; // number.rt: numbers at a place of a text, and the first line
+pub mod rows; // rows.rt: rows of bits at a place of a text
 pub mod read; // read.rt: an order text

@@ -1,0 +1,1 @@
+// Rows of bits are read at a place of a text.
