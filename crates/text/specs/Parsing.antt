@@ -1,12 +1,9 @@
 -- What does a reader find at a place of a text? Assumes nothing.
-use mathlib.Core.Path.{_≡_}
-use mathlib.Core.Bool.{Bool, true, false, cond}
-use mathlib.Core.List.{List, _++_}
-use Prim.Native.Nat.{ℕ, _+_, _-_, _*_, _^_, _<_, _≤_}
+use mathlib.Core.Bool.{cond}
+use mathlib.Core.List.{List}
+use Prim.Native.Nat.{ℕ, _+_, _-_, _*_}
 use lib.Dec.{ltb, leb, eqb}
-use lib.ListN.{length, getD, take, drop}
-use Rattle.bank.specs.Limits.{ROWS}
-use Rattle.text.specs.Lines.{line, bits, rowLines}
+use lib.ListN.{length, getD}
 use Rattle.text.specs.declared.number.Parsed.{Parsed}
 use Rattle.text.specs.declared.number.Parsed.the-variants.{Value, Bad}
 use Rattle.text.specs.declared.number.Line.{Line}
@@ -42,8 +39,18 @@ abbrev pub then : Parsed → (ℕ → ℕ → Line) → Line
 then Bad f = Unread
 then (Value v k) f = f v k
 
--- five numbers, a space after each but the last, LF after that
+-- five numbers, a space after each but the last, LF after that: what is left to read once some are read
+abbrev pub upToR : List ℕ → ℕ → ℕ → ℕ → ℕ → ℕ → Line
+upToR s n b d m at = then (fieldAt s at 10) (λ r e. Of (record { n = n; b = b; d = d; m = m; r = r }) e)
+
+abbrev pub upToM : List ℕ → ℕ → ℕ → ℕ → ℕ → Line
+upToM s n b d at = then (fieldAt s at 32) (upToR s n b d)
+
+abbrev pub upToD : List ℕ → ℕ → ℕ → ℕ → Line
+upToD s n b at = then (fieldAt s at 32) (upToM s n b)
+
+abbrev pub upToB : List ℕ → ℕ → ℕ → Line
+upToB s n at = then (fieldAt s at 32) (upToD s n)
+
 unfoldable pub firstLineAt : List ℕ → Line
-firstLineAt s =
-    then (fieldAt s 0 32) (λ n i. then (fieldAt s i 32) (λ b j. then (fieldAt s j 32) (λ d k.
-    then (fieldAt s k 32) (λ m l. then (fieldAt s l 10) (λ r e. Of (record { n = n; b = b; d = d; m = m; r = r }) e)))))
+firstLineAt s = then (fieldAt s 0 32) (upToB s)
