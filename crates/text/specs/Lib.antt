@@ -3,3 +3,4 @@ pub mod Lines
 pub mod OrderText
 pub mod Reading
 pub mod Parsing
+pub mod Found
