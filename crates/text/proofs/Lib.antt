@@ -1,3 +1,5 @@
 pub mod Numbers
 pub mod FirstLine
 pub mod RowLines
+pub mod Rest
+pub mod Joined
