@@ -26,7 +26,7 @@ as-read : (text : List ℕ) (k l : ℕ) (o p : Order) → k ≡ l → o ≡ p �
 as-read text k l o p e f r = subst (λ (x : ℕ). Reads text x o) (sym e) (subst (λ (x : Order). Reads text l x) (sym f) r)
 
 -- the text of an order, from its geometry on
-text-of : (order : Order) (g : Geometry) → order .geometry ≡ g
+pub text-of : (order : Order) (g : Geometry) → order .geometry ≡ g
     → orderText order ≡ firstLine g ++ (rowLines (g .n) (matrixOf order) ++ line (bits (g .n) (order .complement)))
 unfolding orderText
 text-of order g e = ap (λ (x : Geometry). firstLine x ++ (rowLines (x .n) (matrixOf order) ++ line (bits (x .n) (order .complement)))) e

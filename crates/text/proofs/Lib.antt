@@ -3,3 +3,5 @@ pub mod FirstLine
 pub mod RowLines
 pub mod Rest
 pub mod Joined
+pub mod OneText
+pub mod Main

@@ -6,7 +6,7 @@ use Prim.Native.Nat.{ℕ, zero, suc, _+_, _*_, _^_, _<_, _≤_}
 use native.Mathlib.Omega.{arith}
 use borrow.Author.Tests.{lt-leb, leb-true, eq-eqb}
 use lib.Dec.{eqb, leb}
-use lib.ListN.{length, getD, drop, take, length-append, length-drop, drop-of-length-le}
+use lib.ListN.{length, getD, drop, take, length-drop, drop-of-length-le}
 use lib.Seq.{length-take-le}
 use Rattle.bank.specs.Limits.{ROWS}
 use Rattle.bank.specs.Geometry.{records}
@@ -20,7 +20,7 @@ use Rattle.text.specs.Lines.{line, bits, rowLines}
 use Rattle.text.specs.Reading.{noOrder}
 use Rattle.text.specs.Found.{RowAt, RowsFound, NoRows, RestFound, RestIf}
 use Rattle.text.specs.declared.number.Parsed.the-variants.{Value, Bad}
-use Rattle.text.proofs.RowLines.{length-bits, length-row-lines, same-rest}
+use Rattle.text.proofs.RowLines.{length-line, length-row-lines, same-rest}
 
 -- ---- rows below 2 ^ n, zeros beyond them and a complement below 2 ^ n are good form
 module _ (order : Order) (below : (i : ℕ) → i < order .geometry .n → getD (order .rows) i 0 < records (order .geometry))
@@ -75,12 +75,9 @@ module _ (s : List ℕ) (at : ℕ) (g : Geometry) (fits : g .n ≤ ROWS) (other 
           arith,
           sym (length-drop k s)
               ∙ ap length (same-rest (line (bits (g .n) c)) (line (bits (g .n) (other .complement))) (drop k s) []
-              (length-line c ∙ sym (length-line (other .complement)))
+              (length-line (g .n) c ∙ sym (length-line (g .n) (other .complement)))
               (sym (row .1) ∙ last-line)),
         )
-      where
-        length-line : (v : ℕ) → length (line (bits (g .n) v)) ≡ g .n + 1
-        length-line v = length-append (bits (g .n) v) (10 ∷ []) ∙ ap (λ (k : ℕ). k + 1) (length-bits (g .n) v)
 
 -- a refusal of the rest
 pub no-rest-at : (s : List ℕ) (at : ℕ) (g : Geometry) (number : ℕ) (order : Order) → number ≡ 8 → order ≡ noOrder

@@ -17,6 +17,15 @@ use Rattle.text.specs.Found.{RowAt, RowsFound, NoRows}
 use Rattle.text.specs.declared.number.Parsed.the-variants.{Value, Bad}
 use Rattle.text.proofs.Numbers.{digit-of, digit-cons}
 
+-- ---- lists that begin alike
+-- what follows beginnings that are as long as each other
+pub same-rest : (a b x y : List ℕ) → length a ≡ length b → a ++ x ≡ b ++ y → x ≡ y
+same-rest a b x y h e = sym (drop-at a x (length b) h) ∙ ap (drop (length b)) e ∙ drop-append-seam b y
+
+-- the beginnings themselves
+pub same-start : (a b x y : List ℕ) → length a ≡ length b → a ++ x ≡ b ++ y → a ≡ b
+same-start a b x y h e = sym (take-at a x (length b) h) ∙ ap (take (length b)) e ∙ take-append-seam b y
+
 -- ---- a row
 pub length-bits : (n v : ℕ) → length (bits n v) ≡ n
 unfolding bits
@@ -37,6 +46,12 @@ bits-inj zero v w h i e = omega (arith, pow-zero 2)
 bits-inj (suc n) v w h i e =
     let p : 48 + v % 2 ≡ 48 + w % 2 = cc in
     bin-ext v w (bits-inj n (v / 2) (w / 2) (half-lt n h) (half-lt n i) (cc)) (omega arith)
+
+pub length-line : (n v : ℕ) → length (line (bits n v)) ≡ n + 1
+length-line n v = length-append (bits n v) (10 ∷ []) ∙ ap (λ (k : ℕ). k + 1) (length-bits n v)
+
+pub line-inj : (n v w : ℕ) → v < 2 ^ n → w < 2 ^ n → line (bits n v) ≡ line (bits n w) → v ≡ w
+line-inj n v w h i e = bits-inj n v w h i (same-start (bits n v) (bits n w) (10 ∷ []) (10 ∷ []) (length-bits n v ∙ sym (length-bits n w)) e)
 
 module _ (s : List ℕ) (at n v : ℕ) (rest : List ℕ) (is : drop at s ≡ line (bits n v) ++ rest) where
   flat : drop at s ≡ bits n v ++ (10 ∷ rest)
@@ -87,7 +102,7 @@ unfolding rowLines
 length-row-lines n [] = sym (zero-mul (n + 1))
 length-row-lines n (v ∷ vs) =
     length-append (line (bits n v)) (rowLines n vs)
-    ∙ omega (arith, length-append (bits n v) (10 ∷ []), length-bits n v, length-row-lines n vs, suc-mul (length vs) (n + 1))
+    ∙ omega (arith, length-line n v, length-row-lines n vs, suc-mul (length vs) (n + 1))
 
 pub row-lines-append : (n : ℕ) (vs ws : List ℕ) → rowLines n (vs ++ ws) ≡ rowLines n vs ++ rowLines n ws
 unfolding rowLines
@@ -98,19 +113,28 @@ pub row-lines-one : (n v : ℕ) → rowLines n (v ∷ []) ≡ line (bits n v)
 unfolding rowLines
 row-lines-one n v = append-nil (line (bits n v))
 
--- what follows beginnings that are as long as each other
-pub same-rest : (a b x y : List ℕ) → length a ≡ length b → a ++ x ≡ b ++ y → x ≡ y
-same-rest a b x y h e = sym (drop-at a x (length b) h) ∙ ap (drop (length b)) e ∙ drop-append-seam b y
-
--- the beginnings themselves
-pub same-start : (a b x y : List ℕ) → length a ≡ length b → a ++ x ≡ b ++ y → a ≡ b
-same-start a b x y h e = sym (take-at a x (length b) h) ∙ ap (take (length b)) e ∙ take-append-seam b y
+-- n rows below 2 ^ n have lines of their own
+pub row-lines-inj : (n : ℕ) (vs ws : List ℕ) → length vs ≡ length ws → ((i : ℕ) → i < length vs → getD vs i 0 < 2 ^ n) → ((i : ℕ) → i < length ws → getD ws i 0 < 2 ^ n)
+    → rowLines n vs ≡ rowLines n ws → vs ≡ ws
+unfolding rowLines
+row-lines-inj n [] [] l f g e = refl
+row-lines-inj n [] (w ∷ ws) l f g e = absurd (omega arith)
+row-lines-inj n (v ∷ vs) [] l f g e = absurd (omega arith)
+row-lines-inj n (v ∷ vs) (w ∷ ws) l f g e =
+    let long : length (line (bits n v)) ≡ length (line (bits n w)) = length-line n v ∙ sym (length-line n w) in
+    let first : v ≡ w = line-inj n v w (f 0 (omega arith)) (g 0 (omega arith)) (same-start (line (bits n v)) (line (bits n w)) (rowLines n vs) (rowLines n ws) long e) in
+    let others : vs ≡ ws =
+    row-lines-inj n vs ws (omega arith) (λ i h. f (suc i) (omega arith)) (λ i h. g (suc i) (omega arith))
+    (same-rest (line (bits n v)) (line (bits n w)) (rowLines n vs) (rowLines n ws) long e)
+    in
+    cc
 
 getD-zeros : (k j : ℕ) → getD {A = ℕ} (replicate k 0) j 0 ≡ 0
 getD-zeros zero j = refl
 getD-zeros (suc k) zero = refl
 getD-zeros (suc k) (suc j) = getD-zeros k j
 
+-- ---- the loop over rows
 -- before the first row
 pub no-rows-yet : (s : List ℕ) (at n : ℕ) → RowsFound s at n 0 (replicate ROWS 0) at
 unfolding rowLines
@@ -143,13 +167,13 @@ module _ (s : List ℕ) (at n i : ℕ) (rows : List ℕ) (p : ℕ) (so-far : Row
       let ws = drop (suc i) vs in
       let parts : rowLines n vs ≡ rowLines n (take i vs) ++ (line (bits n x) ++ rowLines n ws) = ap (rowLines n) (split-at vs i 0 (omega arith)) ∙ row-lines-append n (take i vs) (x ∷ ws) in
       let there : drop at s ≡ rowLines n (take i vs) ++ ((line (bits n x) ++ rowLines n ws) ++ rest) =
-          e ∙ ap (λ (l : List ℕ). l ++ rest) parts ∙ append-assoc (rowLines n (take i vs)) (line (bits n x) ++ rowLines n ws) rest
+      e ∙ ap (λ (l : List ℕ). l ++ rest) parts ∙ append-assoc (rowLines n (take i vs)) (line (bits n x) ++ rowLines n ws) rest
       in
       let same : length (take i rows) ≡ length (take i vs) =
-          length-take-le i rows (omega (arith, so-far .room)) ∙ sym (length-take-le i vs (omega arith))
+      length-take-le i rows (omega (arith, so-far .room)) ∙ sym (length-take-le i vs (omega arith))
       in
       let long : length (rowLines n (take i rows)) ≡ length (rowLines n (take i vs)) =
-          length-row-lines n (take i rows) ∙ ap (λ (k : ℕ). k * (n + 1)) same ∙ sym (length-row-lines n (take i vs))
+      length-row-lines n (take i rows) ∙ ap (λ (k : ℕ). k * (n + 1)) same ∙ sym (length-row-lines n (take i vs))
       in
       none x (rowLines n ws ++ rest)
       (same-rest (rowLines n (take i rows)) (rowLines n (take i vs)) (drop p s) ((line (bits n x) ++ rowLines n ws) ++ rest) long (sym (so-far .is) ∙ there)

@@ -92,5 +92,14 @@ pub fn first_line(text: &[u8]) -> Line
     let Parsed::Value(r, e) = field(text, l, 10) else {
         return Line::Unread;
     };
-    Line::Of(Geometry { n: n, b: b, d: d, m: m, r: r }, e)
+    Line::Of(
+        Geometry {
+            n: n,
+            b: b,
+            d: d,
+            m: m,
+            r: r,
+        },
+        e,
+    )
 }

@@ -1,3 +1,4 @@
+-- `text::number::digit` meets its contract: each return has passed the tests before it. Assumes nothing.
 use Rattle.text.proofs.Numbers.{tests}
 use Rattle.text.specs.Parsing.{digitOf}
 use borrow.Author.Needs.{needs}

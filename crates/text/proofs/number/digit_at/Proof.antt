@@ -1,3 +1,4 @@
+-- `text::number::digit_at` meets its contract: past the end the byte 0 stands for none, and 0 is no digit. Assumes nothing.
 use mathlib.Core.Path.{sym}
 use Rattle.text.specs.Parsing.{digitAt}
 use Rattle.text.proofs.Numbers.{digit-past}

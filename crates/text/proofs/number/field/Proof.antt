@@ -1,3 +1,4 @@
+-- `text::number::field` meets its contract: each return has passed the tests before it. Assumes nothing.
 use mathlib.Core.Path.{sym, _∙_}
 use borrow.Author.Tests.{lt-ltb, le-ltb, eq-eqb, ne-eqb}
 use Rattle.text.specs.Parsing.{fieldAt}

@@ -1,3 +1,4 @@
+-- `text::number::first_line` meets its contract: field by field, each by what the one before it gave. Assumes nothing.
 use mathlib.Core.Path.{sym, _∙_}
 use Rattle.text.specs.Parsing.{firstLineAt}
 use borrow.Author.Needs.{needs}

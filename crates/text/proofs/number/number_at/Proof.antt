@@ -1,3 +1,4 @@
+-- `text::number::number_at` meets its contract: each return has passed the tests before it, on the digits read. Assumes nothing.
 use native.Mathlib.Omega.{arith}
 use mathlib.Core.Path.{sym}
 use Prim.Native.Nat.{_+_}

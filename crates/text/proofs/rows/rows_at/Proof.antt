@@ -49,12 +49,14 @@ loop-less c = search needs
 loop-again : tie.Need-loop-again Inv-loop μ-loop
 loop-again c =
     let a = c .before .before .before .before .before .before .before .args in
-    let l = c .before .before .before .before .before .loop in
-    (omega arith, rows-more (a .text .now) (a .at) (a .n) (l .i) (l .list) (l .p) _ _ (l .inv .1) (omega arith)
-    (subst (RowAt (a .text .now) (l .p) (a .n)) (c .before .v .given .1) (c .before .before .before .row-at .ensures)))
+    let l = c .before .before .before .before .before .loop in (
+      omega arith,
+      rows-more (a .text .now) (a .at) (a .n) (l .i) (l .list) (l .p) _ _ (l .inv .1) (omega arith)
+          (subst (RowAt (a .text .now) (l .p) (a .n)) (c .before .v .given .1) (c .before .before .before .row-at .ensures)),
+    )
 
 returns-2 : tie.Need-returns-2 Inv-loop μ-loop
-returns-2 c = 
+returns-2 c =
     let l = c .before .loop in
     let e : l .i ≡ c .before .before .before .args .n = omega arith in
     rw e at (l .inv .1)
