@@ -4,3 +4,4 @@ pub mod OrderText
 pub mod Reading
 pub mod Parsing
 pub mod Found
+pub mod Listing

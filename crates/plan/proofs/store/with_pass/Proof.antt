@@ -1,0 +1,113 @@
+-- `plan::store::with_pass` meets its contract: the rows are pasted place by place. Assumes nothing.
+use mathlib.Core.Path.{_≡_, refl, ap, _∙_}
+use mathlib.Core.List.{List}
+use Prim.Native.Nat.{ℕ, _+_, _*_, _-_, _≤_, _<_}
+use native.Mathlib.Omega.{arith}
+use native.Mathlib.Numerals.{add-one}
+use borrow.Author.Needs.{needs}
+use lib.ListN.{length, getD, set}
+use lib.Seq.{paste, paste-zero, paste-suc}
+use Rattle.bank.specs.Limits.{ROWS, PASSES}
+use Rattle.planning.specs.declared.Plan.{Plan}
+use Rattle.plan.specs.Store.{withPass}
+use Rattle.plan.proofs.store.with_pass.Statement.{statement}
+use Rattle.plan.proofs.store.with_pass.Tie as tie
+
+-- the plan with other rows
+abbrev withRows : Plan → List ℕ → Plan
+withRows plan rows = record { geometry = plan .geometry; count = plan .count; rows = rows; complements = plan .complements }
+
+abbrev Inv-loop : tie.InvT-loop
+Inv-loop p complement rows out₀ base i₀ out i =
+    (i ≤ ROWS) × (base ≡ p * ROWS) × (p < PASSES) × (length (out₀ .rows) ≡ PASSES * ROWS) × (length (out₀ .complements) ≡ PASSES) × (length rows ≡ ROWS)
+    × (out ≡ withRows out₀ (paste (out₀ .rows) base rows i))
+
+abbrev μ-loop : tie.MeasureT-loop
+μ-loop p complement rows out₀ base i₀ out i = ROWS - i
+
+mul-base : tie.Need-mul-base Inv-loop μ-loop
+mul-base c = omega arith
+
+loop-holds : tie.Need-loop-holds Inv-loop μ-loop
+loop-holds c =
+    let a = c .args in
+    (omega arith, refl, c .pre, search needs, search needs, search needs, ap (withRows (a .plan)) (paste-zero (a .plan .rows) (a .p * ROWS) (a .t3)))
+
+mul-out : tie.Need-mul-out Inv-loop μ-loop
+mul-out c = search needs
+
+array-read-out : tie.Need-array-read-out Inv-loop μ-loop
+array-read-out c = search needs
+
+add-out : tie.Need-add-out Inv-loop μ-loop
+add-out c = search needs
+
+mul-out-2 : tie.Need-mul-out-2 Inv-loop μ-loop
+mul-out-2 c = search needs
+
+element-write-out : tie.Need-element-write-out Inv-loop μ-loop
+element-write-out c = omega arith
+
+add-i : tie.Need-add-i Inv-loop μ-loop
+add-i c = search needs
+
+loop-less : tie.Need-loop-less Inv-loop μ-loop
+loop-less c = search needs
+
+loop-again : tie.Need-loop-again Inv-loop μ-loop
+loop-again c =
+    let l = c .before .loop in
+    let a = c .before .before .args in (
+      omega arith,
+      refl,
+      l .inv .2,
+      l .inv .3,
+      l .inv .4,
+      l .inv .5,
+      rw (add-one (l .i))
+          (ap (λ (plan : Plan). withRows plan (set (plan .rows) (a .p * ROWS + l .i) (getD (a .t3) (l .i) 0))) (l .inv .6)
+          ∙ ap (withRows (a .plan)) (paste-suc (a .plan .rows) (a .p * ROWS) (a .t3) (l .i) 0 (omega arith) (omega arith))),
+    )
+
+mul-out-3 : tie.Need-mul-out-3 Inv-loop μ-loop
+mul-out-3 c = search needs
+
+element-write-out-2 : tie.Need-element-write-out-2 Inv-loop μ-loop
+element-write-out-2 c = omega arith
+
+cast-out : tie.Need-cast-out Inv-loop μ-loop
+cast-out c = omega arith
+
+add-out-2 : tie.Need-add-out-2 Inv-loop μ-loop
+add-out-2 c = omega arith
+
+returns : tie.Need-returns Inv-loop μ-loop
+unfolding withPass
+returns c =
+    let l = c .before .loop in
+    let a = c .before .before .args in
+    let e : l .i ≡ ROWS = omega arith in
+    ap (λ (plan : Plan). record { geometry = plan .geometry; count = a .p + 1; rows = plan .rows; complements = set (plan .complements) (a .p) (a .complement) })
+    (rw e at (l .inv .6))
+
+pub with-pass-spec : {M : Type 1} → statement M
+with-pass-spec =
+    tie.close
+    (tie.spec
+    Inv-loop
+    μ-loop
+    mul-base
+    loop-holds
+    mul-out
+    array-read-out
+    add-out
+    mul-out-2
+    element-write-out
+    add-i
+    loop-less
+    loop-again
+    mul-out-3
+    element-write-out-2
+    cast-out
+    add-out-2
+    returns)

@@ -1,0 +1,3 @@
+-- What the calls on plans answer.
+pub mod Store
+pub mod Total
