@@ -5,3 +5,6 @@ pub mod Rest
 pub mod Joined
 pub mod OneText
 pub mod Main
+pub mod Put
+pub mod Decimal
+pub mod Bits

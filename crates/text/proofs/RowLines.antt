@@ -4,10 +4,10 @@ use mathlib.Core.List.{List, [], _∷_, _++_, append-assoc, append-nil}
 use Prim.Native.Nat.{ℕ, zero, suc, _+_, _-_, _*_, _/_, _%_, _^_, _<_, _≤_}
 use native.Mathlib.Omega.{arith}
 use native.Mathlib.Numerals.{add-one}
-use native.Mathlib.Nat.{pow-suc, pow-zero, zero-mul, suc-mul}
+use native.Mathlib.Nat.{pow-suc, pow-zero, zero-mul, suc-mul, mul-le-mul-right}
 use borrow.Author.Count.{below-more}
 use lib.ListN.{length, getD, set, drop, take, replicate, length-append, length-drop, length-set, length-replicate, List·getD-append}
-use lib.Seq.{drop-cons, drop-at, drop-append-seam, take-at, take-append-seam, append-snoc, getD-drop, getD-at, take-suc-set, length-take-le, split-at, getD-set-same, getD-set-other}
+use lib.Seq.{drop-cons, drop-at, drop-append-seam, take-at, take-append-seam, append-snoc, getD-drop, getD-at, take-suc, take-suc-set, length-take-le, split-at, getD-set-same, getD-set-other}
 use lib.Pow.{pow-mono}
 use Rattle.bank.specs.Limits.{ROWS}
 use Rattle.algebra.proofs.Digits.{half-lt, bin-ext}
@@ -112,6 +112,18 @@ row-lines-append n (v ∷ vs) ws = ap (λ (l : List ℕ). line (bits n v) ++ l) 
 pub row-lines-one : (n v : ℕ) → rowLines n (v ∷ []) ≡ line (bits n v)
 unfolding rowLines
 row-lines-one n v = append-nil (line (bits n v))
+
+-- the lines of i rows and one more are no longer than those of n
+pub rows-share : (n i : ℕ) (rows : List ℕ) → i < n → n ≤ length rows → length (rowLines n (take i rows)) + (n + 1) ≤ length (rowLines n (take n rows))
+rows-share n i rows h room =
+    let p : length (rowLines n (take i rows)) ≡ i * (n + 1) = length-row-lines n (take i rows) ∙ ap (λ (k : ℕ). k * (n + 1)) (length-take-le i rows (omega arith)) in
+    let q : length (rowLines n (take n rows)) ≡ n * (n + 1) = length-row-lines n (take n rows) ∙ ap (λ (k : ℕ). k * (n + 1)) (length-take-le n rows room) in
+    let s : suc i * (n + 1) ≤ n * (n + 1) = mul-le-mul-right (n + 1) h in
+    omega (arith, suc-mul i (n + 1))
+
+pub row-lines-more : (n i : ℕ) (rows : List ℕ) → i < length rows → rowLines n (take (i + 1) rows) ≡ rowLines n (take i rows) ++ line (bits n (getD rows i 0))
+row-lines-more n i rows h =
+    rw (add-one i) (ap (rowLines n) (take-suc rows i 0 h) ∙ row-lines-append n (take i rows) (getD rows i 0 ∷ []) ∙ ap (λ (l : List ℕ). rowLines n (take i rows) ++ l) (row-lines-one n (getD rows i 0)))
 
 -- n rows below 2 ^ n have lines of their own
 pub row-lines-inj : (n : ℕ) (vs ws : List ℕ) → length vs ≡ length ws → ((i : ℕ) → i < length vs → getD vs i 0 < 2 ^ n) → ((i : ℕ) → i < length ws → getD ws i 0 < 2 ^ n)

@@ -5,3 +5,4 @@ pub mod Reading
 pub mod Parsing
 pub mod Found
 pub mod Listing
+pub mod Written
