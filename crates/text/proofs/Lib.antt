@@ -8,3 +8,4 @@ pub mod Main
 pub mod Put
 pub mod Decimal
 pub mod Bits
+pub mod Passes
