@@ -99,7 +99,7 @@ module _ (plan : Plan) (state : State) (asked : ℕ) (v : Buffers) where
       record {
         answered =
             ap Done (a ∙ ap (λ (b : Bool). record { next = record { 0 = cond b (state .next .0 + 1) (state .next .0) } }) (lt-ltb (state .next .0 + 1) (2 ^ 64) small))
-                ∙ sym (ap₂ (λ (k : ℕ) (w : Moment). caseOf k (stateAt w)) e d);
+            ∙ sym (ap₂ (λ (k : ℕ) (w : Moment). caseOf k (stateAt w)) e d);
         bytes = m ∙ sym (ap (λ (w : Moment). w .buffers) d);
       }
 
@@ -118,7 +118,7 @@ module _ (plan : Plan) (state : State) (asked : ℕ) (v : Buffers) where
       record {
         answered =
             ap₂ Refused e a ∙ sym (ap₂ (λ (x y : Bool). cond x (Done state) (cond y (Again state) (Refused number state))) z n)
-                ∙ sym (ap (λ (w : Moment). caseOf number (stateAt w)) d);
+            ∙ sym (ap (λ (w : Moment). caseOf number (stateAt w)) d);
         bytes = sym (ap (λ (w : Moment). w .buffers) d);
       }
 
@@ -163,6 +163,6 @@ module _ (plan : Plan) (state : State) (q : ℕ) (v : Buffers) where
         count = c;
         state′ =
             a ∙ ap (λ (b : Bool). record { next = record { 0 = cond b (state .next .0 + n) (state .next .0) } }) (lt-ltb (state .next .0 + n) (2 ^ 64) small)
-                ∙ ap (λ (i : ℕ). record { next = record { 0 = state .next .0 + i } }) c;
+            ∙ ap (λ (i : ℕ). record { next = record { 0 = state .next .0 + i } }) c;
         bytes = b ∙ ap (λ (i : ℕ). movesFrom (routeOf plan) (state .next .0) i v) c;
       }

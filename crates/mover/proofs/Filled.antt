@@ -47,8 +47,11 @@ module _ (P : ℕ → ℕ) (r : ℕ) (pos : 0 < r) (m b : List ℕ) where
       byte i = getD m (P (i / r) * r + i % r) 0
 
       inside : (i : ℕ) → o ≤ i → i < o + r → (i / r ≡ k) × (getD y (0 + (i - o)) 0 ≡ byte i)
-      inside i g l = (at-k, getD-part s (s + r) m (0 + (i - o)) (omega arith)
-          ∙ ap (λ (n : ℕ). getD m n 0) (ap₂ (λ (x y : ℕ). x + y) (sk ∙ ap (λ (n : ℕ). P n * r) (sym at-k)) (zero-add (i - o) ∙ sym in-k)))
+      inside i g l = (
+        at-k,
+        getD-part s (s + r) m (0 + (i - o)) (omega arith)
+            ∙ ap (λ (n : ℕ). getD m n 0) (ap₂ (λ (x y : ℕ). x + y) (sk ∙ ap (λ (n : ℕ). P n * r) (sym at-k)) (zero-add (i - o) ∙ sym in-k)),
+      )
         where
           whole : k * r + (i - o) ≡ i
           whole = omega arith

@@ -2,6 +2,7 @@
 mod say; // say.rt: a line of output
 mod orders; // orders.rt: geometry, form and addresses
 mod plans; // plans.rt: plans made, and plans judged
+mod steps; // steps.rt: steps and runs on lent bytes
 
 fn main() {
     orders::geometries();
@@ -12,4 +13,8 @@ fn main() {
     plans::judged();
     plans::judged_more();
     plans::spilling();
+    steps::one_write();
+    steps::in_turn();
+    steps::lengths();
+    steps::wholes();
 }

@@ -1,0 +1,38 @@
+-- Demand 1 is proved. Assumes nothing.
+use mathlib.Core.Path.{_≡_, refl, sym, ap, _∙_}
+use mathlib.Core.List.{List, [], _∷_}
+use Prim.Native.Nat.{ℕ, zero, suc}
+use Rattle.bank.specs.Checks.{handed}
+use Rattle.algebra.specs.Matrix.{target, source}
+use Rattle.order.specs.declared.Order.{Order}
+use Rattle.order.specs.Order.{matrixOf, judgement}
+use Rattle.order.specs.Address.{questionNumber, targetOf, foundFor}
+use Rattle.order.proofs.Main.{one-answer}
+use Rattle.planning.specs.declared.Plan.{Plan}
+use Rattle.planning.specs.Stored.{emptyPlan}
+use Rattle.plan.specs.Answer.{plannedFor}
+use Rattle.moving.proofs.Main.{refused-keeps, refused-run}
+use Rattle.mover.specs.declared.run.Ran.{Ran}
+use Rattle.demands.specs.Demand1.{Demand1}
+
+-- with a number other than 0, the other thing is handed back
+refused-other : {A : Type 0} (k : ℕ) (result other : A) → (k ≡ 0 → ⊥) → handed k result other ≡ other
+refused-other zero result other f = absurd (f refl)
+refused-other (suc k) result other f = refl
+
+pub demand1 : Demand1
+unfolding targetOf foundFor plannedFor
+demand1 =
+    record {
+      target-refused = λ order x f. refused-other (questionNumber order x) (target (matrixOf order) (order .complement) x) 0 f;
+      source-refused = λ order y f. refused-other (questionNumber order y) (source (order .geometry .n) (matrixOf order) (order .complement) y ∷ []) [] f;
+      source-one = one-answer;
+      plan-refused = λ order f. refused-other (judgement order) _ emptyPlan f;
+      step-refused = refused-keeps;
+      step-one = λ plan state asked v r r′ w w′ p q. (p .answered ∙ sym (q .answered), p .bytes ∙ sym (q .bytes));
+      run-refused = refused-run;
+      run-one = λ plan state q v r r′ w w′ p k. (
+        λ i. record { number = (p .number ∙ sym (k .number)) i; count = (p .count ∙ sym (k .count)) i; state = (p .state′ ∙ sym (k .state′)) i },
+        p .bytes ∙ sym (k .bytes),
+      );
+    }

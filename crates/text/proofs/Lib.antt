@@ -1,0 +1,11 @@
+pub mod Numbers
+pub mod FirstLine
+pub mod RowLines
+pub mod Rest
+pub mod Joined
+pub mod OneText
+pub mod Main
+pub mod Put
+pub mod Decimal
+pub mod Bits
+pub mod Passes

@@ -1,0 +1,23 @@
+-- `text::number::digit_at` meets its contract: past the end the byte 0 stands for none, and 0 is no digit. Assumes nothing.
+use mathlib.Core.Path.{sym}
+use Rattle.text.specs.Parsing.{digitAt}
+use Rattle.text.proofs.Numbers.{digit-past}
+use borrow.Author.Needs.{needs}
+use Rattle.text.proofs.number.digit_at.Statement.{statement}
+use Rattle.text.proofs.number.digit_at.Tie as tie
+
+shared-slice-read-digit : tie.Need-shared-slice-read-digit
+shared-slice-read-digit c = search needs
+
+digit-requires : tie.Need-digit-requires
+digit-requires c κs = search needs
+
+returns : tie.Need-returns
+unfolding digitAt
+returns c = search needs
+
+returns-2 : tie.Need-returns-2
+returns-2 c = sym (digit-past _ _ (c .if1 .left))
+
+pub digit-at-spec : {M : Type 1} → statement M
+digit-at-spec = tie.close (tie.spec shared-slice-read-digit digit-requires returns returns-2)

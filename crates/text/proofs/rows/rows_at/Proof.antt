@@ -1,0 +1,80 @@
+-- `text::rows::rows_at` meets its contract: the lines passed are those of the rows so far, and where one is missing no rows stand there.
+-- Assumes nothing.
+use mathlib.Core.Path.{_≡_, refl, sym, ap, _∙_, subst}
+use Prim.Native.Nat.{ℕ, _+_, _-_, _<_, _≤_}
+use native.Mathlib.Omega.{arith}
+use borrow.Author.Needs.{needs}
+use Rattle.text.specs.Found.{RowAt, RowsFound}
+use Rattle.text.proofs.RowLines.{no-rows-yet, rows-more, rows-broken}
+use Rattle.text.proofs.rows.rows_at.Statement.{statement}
+use Rattle.text.proofs.rows.rows_at.Tie as tie
+
+abbrev Inv-loop : tie.InvT-loop
+Inv-loop text at n list₀ p₀ i₀ list p i = (i ≤ n) × RowsFound text at n i list p
+
+abbrev μ-loop : tie.MeasureT-loop
+μ-loop text at n list₀ p₀ i₀ list p i = n - i
+
+loop-holds : tie.Need-loop-holds Inv-loop μ-loop
+loop-holds c = let a = c .before .args in (omega arith, no-rows-yet (a .text .now) (a .at) (a .n))
+
+row-at-requires : tie.Need-row-at-requires Inv-loop μ-loop
+row-at-requires c κs = search needs
+
+enum-known-v : tie.Need-enum-known-v Inv-loop μ-loop
+enum-known-v c = search needs
+
+enum-told : tie.Need-enum-told Inv-loop μ-loop
+enum-told c = search needs
+
+returns : tie.Need-returns Inv-loop μ-loop
+returns c =
+    let a = c .before .before .before .before .before .before .args in
+    let l = c .before .before .before .before .loop in
+    rows-broken (a .text .now) (a .at) (a .n) (l .i) (l .list) (l .p) (l .inv .1) (omega arith) (omega arith)
+    (subst (RowAt (a .text .now) (l .p) (a .n)) (c .enum-told .given .1) (c .before .before .row-at .ensures))
+
+mul-list : tie.Need-mul-list Inv-loop μ-loop
+mul-list c = search needs
+
+array-write-list : tie.Need-array-write-list Inv-loop μ-loop
+array-write-list c = search needs
+
+add-i : tie.Need-add-i Inv-loop μ-loop
+add-i c = search needs
+
+loop-less : tie.Need-loop-less Inv-loop μ-loop
+loop-less c = search needs
+
+loop-again : tie.Need-loop-again Inv-loop μ-loop
+loop-again c =
+    let a = c .before .before .before .before .before .before .before .args in
+    let l = c .before .before .before .before .before .loop in (
+      omega arith,
+      rows-more (a .text .now) (a .at) (a .n) (l .i) (l .list) (l .p) _ _ (l .inv .1) (omega arith)
+          (subst (RowAt (a .text .now) (l .p) (a .n)) (c .before .v .given .1) (c .before .before .before .row-at .ensures)),
+    )
+
+returns-2 : tie.Need-returns-2 Inv-loop μ-loop
+returns-2 c =
+    let l = c .before .loop in
+    let e : l .i ≡ c .before .before .before .args .n = omega arith in
+    rw e at (l .inv .1)
+
+pub rows-at-spec : {M : Type 1} → statement M
+rows-at-spec =
+    tie.close
+    (tie.spec
+    Inv-loop
+    μ-loop
+    loop-holds
+    row-at-requires
+    enum-known-v
+    enum-told
+    returns
+    mul-list
+    array-write-list
+    add-i
+    loop-less
+    loop-again
+    returns-2)

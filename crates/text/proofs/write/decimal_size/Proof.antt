@@ -1,0 +1,38 @@
+-- `text::write::decimal_size` meets its contract: each turn takes one digit away. Assumes nothing.
+use mathlib.Core.Path.{_≡_, refl, sym, ap, _∙_, subst}
+use mathlib.Core.List.{List, [], _∷_, _++_}
+use Prim.Native.Nat.{ℕ, _+_, _-_, _*_, _/_, _%_, _^_, _<_, _≤_}
+use native.Mathlib.Omega.{arith}
+use native.Mathlib.Numerals.{add-one}
+use borrow.Author.Needs.{needs}
+use lib.ListN.{length, getD, set, take, length-set}
+use Rattle.text.specs.Lines.{decimal}
+use Rattle.text.proofs.Numbers.{decimal-one}
+use Rattle.text.proofs.Decimal.{decimal-length, decimal-longer}
+use Rattle.text.proofs.write.decimal_size.Statement.{statement}
+use Rattle.text.proofs.write.decimal_size.Tie as tie
+
+abbrev Inv-loop : tie.InvT-loop
+Inv-loop v k₀ x₀ k x = (x ≤ v) × (k + length (decimal x) ≡ length (decimal v) + 1)
+
+abbrev μ-loop : tie.MeasureT-loop
+μ-loop v k₀ x₀ k x = x
+
+loop-holds : tie.Need-loop-holds Inv-loop μ-loop
+loop-holds c = (omega arith, omega arith)
+
+add-k : tie.Need-add-k Inv-loop μ-loop
+add-k c = let a = c .before .before .args in omega (arith, decimal-length (a .v))
+
+loop-less : tie.Need-loop-less Inv-loop μ-loop
+loop-less c = omega arith
+
+loop-again : tie.Need-loop-again Inv-loop μ-loop
+loop-again c = let l = c .before .loop in (omega arith, omega (arith, l .inv .1, decimal-longer (l .x) (omega arith) (omega arith)))
+
+returns : tie.Need-returns Inv-loop μ-loop
+returns c = let l = c .before .loop in omega (arith, l .inv .1, ap length (decimal-one (l .x) (omega arith)))
+
+pub decimal-size-spec : {M : Type 1} → statement M
+decimal-size-spec =
+    tie.close (tie.spec Inv-loop μ-loop loop-holds add-k loop-less loop-again returns)

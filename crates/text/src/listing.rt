@@ -1,0 +1,110 @@
+// The listing of a plan.
+ghost use mathlib.Core.Path.{_≡_};
+ghost use mathlib.Core.Bool.{true};
+ghost use Prim.Native.Nat.{_+_, _≤_};
+ghost use lib.ListN.{length, take};
+ghost use Rattle.bank.specs.Limits.{ROWS};
+ghost use Rattle.planning.specs.Running.{sound};
+ghost use Rattle.text.specs.Listing.{passLines, listing, written, roomAfter};
+ghost use Rattle.text.specs.Written.{Wrote, headLines, tailLines};
+use crate::write::decimal_size;
+use crate::write::put_line;
+use crate::write::put_row;
+use crate::write::put_rows;
+use bank::ROWS;
+use plan::running::is_sound;
+use plan::running::result_area;
+use plan::running::total_steps;
+use plan::store::pass_rows;
+use planning::Plan;
+
+// How many bytes the three lines before the passes have.
+fn head_size(plan: Plan) -> usize
+    requires { ⌜ sound plan ≡ true ⌝ }
+    ensures { λ r. ⌜ r ≡ length (headLines plan) ⌝ }
+{
+    let passes = decimal_size(bank::wide(plan.count));
+    let steps = decimal_size(total_steps(plan));
+    let result = decimal_size(bank::wide(result_area(plan)));
+    8 + passes + 7 + steps + 8 + result
+}
+
+// How many bytes the passes have.
+fn tail_size(plan: Plan) -> usize
+    requires { ⌜ sound plan ≡ true ⌝ }
+    ensures { λ r. ⌜ r ≡ length (tailLines plan) ⌝ }
+{
+    let n = plan.geometry.n as usize;
+    let count = plan.count as usize;
+    let mut size = 0usize;
+    let mut p = 0usize;
+    while p < count {
+        size += 6 + decimal_size(p as u64) + (n + 1) * (n + 1);
+        p += 1;
+    }
+    size
+}
+
+// How many bytes the listing has: none where the plan can't run.
+pub fn listing_size(plan: Plan) -> usize
+    ensures { λ r. ⌜ r ≡ length (listing plan) ⌝ }
+{
+    if !is_sound(plan) {
+        return 0;
+    }
+    head_size(plan) + tail_size(plan)
+}
+
+// The three lines before the passes.
+fn put_head(room: &mut [u8], plan: Plan) -> usize
+    requires { ⌜ (sound plan ≡ true) × (length (headLines plan) ≤ length (now room)) ⌝ }
+    ensures { λ r. ⌜ Wrote (now (room .entry)) 0 (headLines plan) (now (room .exit)) r ⌝ }
+{
+    let p = put_line(room, 0, b"passes ", bank::wide(plan.count));
+    let q = put_line(room, p, b"steps ", total_steps(plan));
+    put_line(room, q, b"result ", bank::wide(result_area(plan)))
+}
+
+// A pass: its number, its n rows, its complement.
+fn put_pass(room: &mut [u8], at: usize, p: usize, rows: &[u32; ROWS], n: usize, c: u32) -> usize
+    requires { ⌜ (n ≤ ROWS) × (at + length (passLines n p (record { rows = take n (now rows); complement = c })) ≤ length (now room)) ⌝ }
+    ensures { λ r. ⌜ Wrote (now (room .entry)) at (passLines n p (record { rows = take n (now (rows .entry)); complement = c })) (now (room .exit)) r ⌝ }
+{
+    let i = put_line(room, at, b"pass ", p as u64);
+    let j = put_rows(room, i, rows, n);
+    put_row(room, j, c, n)
+}
+
+// The passes, numbered from 0.
+fn put_tail(room: &mut [u8], at: usize, plan: Plan) -> usize
+    requires { ⌜ (sound plan ≡ true) × (at + length (tailLines plan) ≤ length (now room)) ⌝ }
+    ensures { λ r. ⌜ Wrote (now (room .entry)) at (tailLines plan) (now (room .exit)) r ⌝ }
+{
+    let n = plan.geometry.n as usize;
+    let count = plan.count as usize;
+    let rows = plan.rows;
+    let complements = plan.complements;
+    let mut i = at;
+    let mut p = 0usize;
+    while p < count {
+        let part = pass_rows(&rows, p);
+        i = put_pass(room, i, p, &part, n, complements[p]);
+        p += 1;
+    }
+    i
+}
+
+// The whole listing into a room, and how many bytes it has; where it has no room nothing is written.
+pub fn write_listing(plan: Plan, room: &mut [u8]) -> usize
+    ensures { λ r. ⌜ (r ≡ written plan (now (room .entry))) × (now (room .exit) ≡ roomAfter plan (now (room .entry))) ⌝ }
+{
+    if !is_sound(plan) {
+        return 0;
+    }
+    let size = head_size(plan) + tail_size(plan);
+    if room.len() < size {
+        return 0;
+    }
+    let p = put_head(room, plan);
+    put_tail(room, p, plan)
+}

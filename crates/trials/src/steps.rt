@@ -1,0 +1,368 @@
+// The trial orders on steps and runs: what each call answers, and what the bytes are afterwards.
+use crate::orders;
+use crate::say;
+use bank::Address;
+use bank::Step;
+use mover::run::run;
+use mover::state::State;
+use mover::step::Stepped;
+use mover::step::step;
+use order::Order;
+use order::address::target_of;
+use plan::make::make_plan;
+use plan::running::result_area;
+use plan::running::total_steps;
+use planning::Plan;
+
+// The bytes of an area and of the memory in G, where a record has 8.
+const AREA: usize = 128;
+
+const MEMORY: usize = 32;
+
+// More than either.
+const LONG: usize = 136;
+
+// Every byte of record x becomes first + x.
+fn label(area: &mut [u8], first: u64) {
+    let mut i = 0;
+    while i < area.len() {
+        area[i] = ((first + (i / 8) as u64 % 64) % 256) as u8;
+        i += 1;
+    }
+}
+
+fn number(s: Stepped) -> u64 {
+    match s {
+        Stepped::Done(_) => 0,
+        Stepped::Again(_) => 9,
+        Stepped::Refused(k, _) => k as u64,
+    }
+}
+
+fn state(s: Stepped) -> State {
+    match s {
+        Stepped::Done(t) => t,
+        Stepped::Again(t) => t,
+        Stepped::Refused(_, t) => t,
+    }
+}
+
+// How many of the first bytes of a and b differ.
+fn differing(a: &[u8], b: &[u8]) -> u64 {
+    let mut count = 0u64;
+    let mut i = 0;
+    while i < a.len() {
+        if i < b.len() {
+            if a[i] != b[i] {
+                count = count % 1000000 + 1;
+            }
+        }
+        i += 1;
+    }
+    count
+}
+
+fn reversal() -> Plan {
+    let p = make_plan(orders::reversal());
+    p.plan
+}
+
+// Asks for a step, and says its number.
+fn ask(
+    asked: &[u8],
+    p: Plan,
+    s: State,
+    k: u64,
+    area0: &mut [u8],
+    area1: &mut [u8],
+    memory: &mut [u8],
+) -> State {
+    let r = step(p, s, Step(k), area0, area1, memory);
+    say::one(asked, number(r));
+    state(r)
+}
+
+// Runs with an allowance, and says the number, the count and the next step.
+fn go(
+    asked: &[u8],
+    p: Plan,
+    s: State,
+    allowance: u64,
+    area0: &mut [u8],
+    area1: &mut [u8],
+    memory: &mut [u8],
+) -> State {
+    let r = run(p, s, allowance, area0, area1, memory);
+    say::three(asked, r.number as u64, r.count, r.state.next.0);
+    r.state
+}
+
+// Step 1 of the reversal writes places 0, 1, 10 and 11 of area 1, and nothing else changes.
+pub fn one_write() {
+    let p = reversal();
+    let mut area0 = [0u8; AREA];
+    let mut area1 = [0u8; AREA];
+    let mut memory = [0u8; MEMORY];
+    label(&mut area0, 50);
+    label(&mut area1, 150);
+    let mut right = area1;
+    let mut i = 0;
+    while i < 16 {
+        right[i] = area0[i];
+        right[80 + i] = area0[16 + i];
+        i += 1;
+    }
+    let before = area0;
+    let s = ask(
+        b"reversal, step 0",
+        p,
+        State::fresh(),
+        0,
+        &mut area0,
+        &mut area1,
+        &mut memory,
+    );
+    ask(
+        b"reversal, step 1",
+        p,
+        s,
+        1,
+        &mut area0,
+        &mut area1,
+        &mut memory,
+    );
+    say::one(b"bytes of area 1 that are wrong", differing(&area1, &right));
+    say::one(b"bytes of area 0 that changed", differing(&area0, &before));
+    say::one(
+        b"bytes of memory that are wrong",
+        differing(&memory, &before),
+    );
+}
+
+// The numbers of steps in and out of turn.
+pub fn in_turn() {
+    let p = reversal();
+    let mut area0 = [0u8; AREA];
+    let mut area1 = [0u8; AREA];
+    let mut memory = [0u8; MEMORY];
+    let mut s = State::fresh();
+    s = ask(
+        b"fresh, step 0",
+        p,
+        s,
+        0,
+        &mut area0,
+        &mut area1,
+        &mut memory,
+    );
+    s = ask(b"then step 0", p, s, 0, &mut area0, &mut area1, &mut memory);
+    s = ask(b"then step 2", p, s, 2, &mut area0, &mut area1, &mut memory);
+    s = ask(b"then step 1", p, s, 1, &mut area0, &mut area1, &mut memory);
+    s = go(
+        b"then a run of 0",
+        p,
+        s,
+        0,
+        &mut area0,
+        &mut area1,
+        &mut memory,
+    );
+    s = go(
+        b"then a run of 1",
+        p,
+        s,
+        1,
+        &mut area0,
+        &mut area1,
+        &mut memory,
+    );
+    s = go(
+        b"then a run of 100",
+        p,
+        s,
+        100,
+        &mut area0,
+        &mut area1,
+        &mut memory,
+    );
+    s = go(
+        b"then a run of 100",
+        p,
+        s,
+        100,
+        &mut area0,
+        &mut area1,
+        &mut memory,
+    );
+    s = ask(
+        b"then step 23",
+        p,
+        s,
+        23,
+        &mut area0,
+        &mut area1,
+        &mut memory,
+    );
+    s = ask(
+        b"then step 24",
+        p,
+        s,
+        24,
+        &mut area0,
+        &mut area1,
+        &mut memory,
+    );
+    ask(
+        b"then step 22",
+        p,
+        s,
+        22,
+        &mut area0,
+        &mut area1,
+        &mut memory,
+    );
+}
+
+// A call with parts of three long buffers, of the lengths given; then how many bytes changed.
+fn lent(asked: &[u8], p: Plan, k: u64, l0: usize, l1: usize, lm: usize) {
+    let mut area0 = [0u8; LONG];
+    let mut area1 = [0u8; LONG];
+    let mut memory = [0u8; LONG];
+    label(&mut area0, 50);
+    label(&mut area1, 150);
+    label(&mut memory, 100);
+    let before0 = area0;
+    let before1 = area1;
+    let before2 = memory;
+    if l0 <= LONG {
+        if l1 <= LONG {
+            if lm <= LONG {
+                ask(
+                    asked,
+                    p,
+                    State::fresh(),
+                    k,
+                    &mut area0[0..l0],
+                    &mut area1[0..l1],
+                    &mut memory[0..lm],
+                );
+            }
+        }
+    }
+    say::three(
+        b"bytes that changed",
+        differing(&area0, &before0),
+        differing(&area1, &before1),
+        differing(&memory, &before2),
+    );
+}
+
+// Wrong lengths, and the order of the checks.
+pub fn lengths() {
+    let p = reversal();
+    lent(b"area 0 short", p, 0, AREA - 1, AREA, MEMORY);
+    lent(b"area 0 long", p, 0, AREA + 1, AREA, MEMORY);
+    lent(b"area 0 empty", p, 0, 0, AREA, MEMORY);
+    lent(b"area 1 short", p, 0, AREA, AREA - 1, MEMORY);
+    lent(b"area 1 long", p, 0, AREA, AREA + 1, MEMORY);
+    lent(b"area 1 empty", p, 0, AREA, 0, MEMORY);
+    lent(b"memory short", p, 0, AREA, AREA, MEMORY - 1);
+    lent(b"memory long", p, 0, AREA, AREA, MEMORY + 1);
+    lent(b"memory empty", p, 0, AREA, AREA, 0);
+    lent(
+        b"the empty plan, area 0 empty, step 30",
+        plan::store::empty_plan(),
+        30,
+        0,
+        AREA,
+        MEMORY,
+    );
+    lent(b"area 0 empty, step 30", p, 30, 0, AREA, MEMORY);
+    lent(b"step 30", p, 30, AREA, AREA, MEMORY);
+    lent(b"step 5", p, 5, AREA, AREA, MEMORY);
+    lent(b"step 0", p, 0, AREA, AREA, MEMORY);
+}
+
+// Every step asked twice: how many were answered 0 and 9.
+fn twice(p: Plan, area0: &mut [u8], area1: &mut [u8], memory: &mut [u8]) -> u64 {
+    let total = total_steps(p);
+    let mut s = State::fresh();
+    let mut right = 0u64;
+    let mut k = 0u64;
+    while k < total {
+        let r = step(p, s, Step(k), area0, area1, memory);
+        let again = step(p, state(r), Step(k), area0, area1, memory);
+        if number(r) == 0 {
+            if number(again) == 9 {
+                right = right % 1000000 + 1;
+            }
+        }
+        s = state(again);
+        k += 1;
+    }
+    right
+}
+
+// How many of the n records are at Ax xor c in the area: record x is labelled 50 + x.
+fn arrived(o: Order, area: &[u8], n: u64) -> u64 {
+    let mut count = 0u64;
+    let mut x = 0u64;
+    while x < n {
+        let t = target_of(o, Address(x));
+        let at = (t.address.0 % 1000000) as usize * 8;
+        if at + 7 < area.len() {
+            if area[at] as u64 == (50 + x % 64) % 256 {
+                if area[at + 7] == area[at] {
+                    count = count % 1000000 + 1;
+                }
+            }
+        }
+        x += 1;
+    }
+    count
+}
+
+// A whole run with each step again: steps answered rightly, and records that arrived.
+fn whole(asked: &[u8], o: Order, n: u64, bytes: usize, room: usize) {
+    let p = make_plan(o);
+    let mut area0 = [0u8; AREA];
+    let mut area1 = [0u8; AREA];
+    let mut memory = [0u8; MEMORY];
+    label(&mut area0, 50);
+    if bytes <= AREA {
+        if room <= MEMORY {
+            let right = twice(
+                p.plan,
+                &mut area0[0..bytes],
+                &mut area1[0..bytes],
+                &mut memory[0..room],
+            );
+            if result_area(p.plan) == 0 {
+                say::two(asked, right, arrived(o, &area0, n));
+            } else {
+                say::two(asked, right, arrived(o, &area1, n));
+            }
+        }
+    }
+}
+
+pub fn wholes() {
+    whole(b"reversal, whole", orders::reversal(), 16, AREA, MEMORY);
+    whole(
+        b"identity, c = 15, whole",
+        orders::identity(15),
+        16,
+        AREA,
+        MEMORY,
+    );
+    whole(b"identity, whole", orders::identity(0), 16, AREA, MEMORY);
+    whole(b"Gray code, whole", orders::gray(), 16, AREA, MEMORY);
+    whole(
+        b"0010 0001 1000 0100, whole",
+        orders::exchange(),
+        16,
+        AREA,
+        MEMORY,
+    );
+    whole(b"n = 2, 01 10, whole", orders::small(), 4, 32, 16);
+}
