@@ -13,12 +13,23 @@ use Rattle.planning.specs.Stored.{emptyPlan}
 use Rattle.plan.specs.Answer.{plannedFor}
 use Rattle.moving.proofs.Main.{refused-keeps, refused-run}
 use Rattle.mover.specs.declared.run.Ran.{Ran}
+use Rattle.text.specs.Reading.{Reads, noOrder}
+use Rattle.text.specs.Reading.Reads.{no-first-line, outside, no-rest, singular, taken}
+use Rattle.text.proofs.Main.{one-reading}
 use Rattle.demands.specs.Demand1.{Demand1}
 
 -- with a number other than 0, the other thing is handed back
 refused-other : {A : Type 0} (k : ℕ) (result other : A) → (k ≡ 0 → ⊥) → handed k result other ≡ other
 refused-other zero result other f = absurd (f refl)
 refused-other (suc k) result other f = refl
+
+-- a text that is refused gives no order
+refused-empty : {text : List ℕ} {k : ℕ} {order : Order} → Reads text k order → (k ≡ 0 → ⊥) → order ≡ noOrder
+refused-empty (no-first-line h) f = refl
+refused-empty (outside g b e) f = refl
+refused-empty (no-rest g b e h) f = refl
+refused-empty (singular g order b e w j) f = refl
+refused-empty (taken g order b e w j) f = absurd (f refl)
 
 pub demand1 : Demand1
 unfolding targetOf foundFor plannedFor
@@ -31,6 +42,8 @@ demand1 =
       step-refused = refused-keeps;
       step-one = λ plan state asked v r r′ w w′ p q. (p .answered ∙ sym (q .answered), p .bytes ∙ sym (q .bytes));
       run-refused = refused-run;
+      read-refused = λ text k order r f. refused-empty r f;
+      read-one = one-reading;
       run-one = λ plan state q v r r′ w w′ p k. (
         λ i. record { number = (p .number ∙ sym (k .number)) i; count = (p .count ∙ sym (k .count)) i; state = (p .state′ ∙ sym (k .state′)) i },
         p .bytes ∙ sym (k .bytes),

@@ -2,7 +2,7 @@
 -- That every call takes any input and ends is said by its contract: none has a `requires`, and the proof of each says that it returns.
 use mathlib.Core.Path.{_≡_}
 use mathlib.Core.Bool.{true, false}
-use mathlib.Core.List.{[]}
+use mathlib.Core.List.{List, []}
 use Prim.Native.Nat.{ℕ}
 use lib.Dec.{eqb}
 use Rattle.order.specs.declared.Order.{Order}
@@ -19,6 +19,7 @@ use Rattle.mover.specs.declared.state.State.{State}
 use Rattle.mover.specs.declared.step.Stepped.{Stepped}
 use Rattle.mover.specs.declared.run.Ran.{Ran}
 use Rattle.mover.specs.Promise.{StepPromise, RunPromise}
+use Rattle.text.specs.Reading.{Reads, noOrder}
 
 pub record Demand1 : Type 0 where
   -- asked forwards: address 0 with a refusal
@@ -36,3 +37,6 @@ pub record Demand1 : Type 0 where
   pub run-refused : (plan : Plan) (moment : Moment) (q : ℕ) → eqb (runNumber plan moment) 0 ≡ false → (ran plan moment q ≡ moment) × (runCount plan moment q ≡ 0)
   pub run-one : (plan : Plan) (state : State) (q : ℕ) (v : Buffers) (r r′ : Ran) (w w′ : Buffers)
       → RunPromise plan state q v r w → RunPromise plan state q v r′ w′ → (r ≡ r′) × (w ≡ w′)
+  -- reading a text: an order zero everywhere, and one outcome
+  pub read-refused : (text : List ℕ) (k : ℕ) (order : Order) → Reads text k order → (k ≡ 0 → ⊥) → order ≡ noOrder
+  pub read-one : (text : List ℕ) (k k′ : ℕ) (order order′ : Order) → Reads text k order → Reads text k′ order′ → (k ≡ k′) × (order ≡ order′)
