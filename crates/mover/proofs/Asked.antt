@@ -15,14 +15,16 @@ use Rattle.moving.proofs.Calls.{Ready, by-step, can→ready, refused-keeps, ref
 use Rattle.moving.specs.Call.{Moment, movesFrom, ran, readyNumber, runCount, runNumber, stepNumber, stepped, turnNumber}
 use Rattle.moving.specs.Line.{refuses}
 use Rattle.moving.specs.Step.{Buffers, fits, move}
-use Rattle.plan.proofs.Judging.{records-small, total-inside, total-powers, total-small}
+use Rattle.plan.proofs.Judging.{total-inside}
 use Rattle.plan.specs.Total.{totalSteps}
 use Rattle.planning.proofs.Running.{can-run→sound, sound-allowed, sound-few, sound→checked, sound→runs}
+use Rattle.planning.proofs.Stored.{route-length}
 use Rattle.planning.specs.Pass.{total}
 use Rattle.planning.specs.Running.{canRun, countInLimits, sound}
 use Rattle.planning.specs.Stored.{routeOf}
 use Rattle.planning.specs.declared.Plan.{Plan}
 use Rattle.bank.specs.Geometry.{inLimits}
+use Rattle.mover.proofs.Plans.{total-fits}
 use Rattle.mover.specs.Moving.{StepsReady}
 use Rattle.mover.specs.Numbers.{readyBy}
 use Rattle.mover.specs.Promise.{RunPromise, StepPromise, caseOf, momentOf, stateAt}
@@ -58,14 +60,8 @@ module _ (plan : Plan) (e : sound plan ≡ true) where
   pub total-is : totalSteps plan ≡ total (routeOf plan)
   total-is = total-inside plan inside
 
-  pub total-fits : total (routeOf plan) < 2 ^ 64
-  total-fits =
-      omega (
-        arith,
-        total-is,
-        total-powers plan inside,
-        total-small (2 ^ plan .geometry .n) (2 ^ plan .geometry .b * 2 ^ plan .geometry .d) (plan .count) (records-small (plan .geometry) (sound-allowed plan e)) (sound-few plan e),
-      )
+  pub total-small : total (routeOf plan) < 2 ^ 64
+  total-small = total-fits (routeOf plan) (unfold routeOf in sound-allowed plan e) (omega (arith, sound-few plan e, route-length plan))
 
 -- ---- a step
 
@@ -95,7 +91,7 @@ module _ (plan : Plan) (state : State) (asked : ℕ) (v : Buffers) where
   done-promise s v′ e a m =
       let z = zero-means plan (momentOf state v) asked e in
       let d = step-done plan (momentOf state v) asked e in
-      let small : state .next .0 + 1 < 2 ^ 64 = omega (arith, z .1, z .2, total-fits plan (z .0 .sound-plan)) in
+      let small : state .next .0 + 1 < 2 ^ 64 = omega (arith, z .1, z .2, total-small plan (z .0 .sound-plan)) in
       record {
         answered =
             ap Done (a ∙ ap (λ (b : Bool). record { next = record { 0 = cond b (state .next .0 + 1) (state .next .0) } }) (lt-ltb (state .next .0 + 1) (2 ^ 64) small))
@@ -157,7 +153,7 @@ module _ (plan : Plan) (state : State) (q : ℕ) (v : Buffers) where
   run-done k n s v′ e z m a b =
       let r = run-ready plan (momentOf state v) z in
       let c : n ≡ runCount plan (momentOf state v) q = m ∙ sym (run-count plan (momentOf state v) q z) in
-      let small : state .next .0 + n < 2 ^ 64 = omega (arith, r .within, total-fits plan (r .sound-plan)) in
+      let small : state .next .0 + n < 2 ^ 64 = omega (arith, r .within, total-small plan (r .sound-plan)) in
       record {
         number = e;
         count = c;

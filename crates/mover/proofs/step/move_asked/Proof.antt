@@ -1,39 +1,50 @@
+-- `mover::step::move_asked` meets its contract: the tables are those of the step's pass. Assumes nothing.
+use mathlib.Core.Path.{ap, subst, sym, _∙_}
+use Prim.Native.Nat.{ℕ, _<_}
+use native.Mathlib.Omega.{arith}
+use Rattle.mover.proofs.Plans.{bare-pass, move-same, pass-in, plan-allowed, plan-moves}
+use Rattle.mover.specs.Moving.{moveBy}
+use Rattle.mover.specs.Promise.{buffersOf}
+use Rattle.mover.specs.declared.tables.Tables.{Tables}
 use borrow.Author.Needs.{needs}
 use Rattle.mover.proofs.step.move_asked.Statement.{statement}
 use Rattle.mover.proofs.step.move_asked.Tie as tie
-use Rattle.mover.proofs.step.move_asked.Reads as reads
-use Rattle.mover.proofs.step.move_asked.Lts as lts
-use Rattle.mover.proofs.moves.move_step.Reads as move-step-reads
-use Rattle.mover.proofs.tables.tables_of.Reads as tables-of-reads
-use Rattle.mover.proofs.turns.pass_of.Reads as pass-of-reads
 
--- src/step.rt:106:9
 pass-of-requires : tie.Need-pass-of-requires
-pass-of-requires c κs = ?
+pass-of-requires c κs = let s = c .before .before .before in plan-allowed (s .args .plan) (s .pre .runs)
 
--- src/step.rt:107:9
 tables-of-requires : tie.Need-tables-of-requires
-tables-of-requires c κs = ?
+tables-of-requires c κs =
+    let s = c .before .before .before .before in
+    (s .pre .runs, rw (c .pass-of .ensures, bare-pass (s .args .plan) (s .args .asked .0)) (pass-in (s .args .plan) (s .pre .runs) (s .args .asked .0) (omega (arith, s .pre .within))))
 
--- src/step.rt:108:5
 move-step-requires : tie.Need-move-step-requires
-move-step-requires c κs = ?
+move-step-requires c κs =
+    let s = c .before .before .before .before .before .before .before .before in
+    let p = c .before .before .before .before .pass-of in
+    let h : p .result < s .args .plan .count =
+        subst (λ (n : ℕ). n < s .args .plan .count) (sym (p .ensures ∙ bare-pass (s .args .plan) (s .args .asked .0))) (pass-in (s .args .plan) (s .pre .runs) (s .args .asked .0) (omega (arith, s .pre .within))) in
+    rw (c .before .before .before .tables-of .ensures) (plan-moves (s .args .plan) (s .pre .runs) (p .result) h (buffersOf (s .args .area0 .now) (s .args .area1 .now) (s .args .memory .now)) (s .pre .fitting))
 
--- src/step.rt:96:1
 same-length : tie.Need-same-length
 same-length c = search needs
 
--- src/step.rt:96:1
 same-length-2 : tie.Need-same-length-2
 same-length-2 c = search needs
 
--- src/step.rt:96:1
 same-length-3 : tie.Need-same-length-3
 same-length-3 c = search needs
 
--- src/step.rt:96:1
 returns : tie.Need-returns
-returns c = ?
+returns c =
+    let s = c .before .before .before .before .before .before .before .before .before .before .before .before .before .before .before in
+    let p = c .before .before .before .before .before .before .before .before .before .before .before .pass-of in
+    let is = p .ensures ∙ bare-pass (s .args .plan) (s .args .asked .0) in
+    let h : p .result < s .args .plan .count =
+        subst (λ (n : ℕ). n < s .args .plan .count) (sym is) (pass-in (s .args .plan) (s .pre .runs) (s .args .asked .0) (omega (arith, s .pre .within))) in
+    c .before .before .before .before .before .before .move-step .ensures
+    ∙ ap (λ (t : Tables). moveBy t (s .args .asked .0) (buffersOf (s .args .area0 .now) (s .args .area1 .now) (s .args .memory .now))) (c .before .before .before .before .before .before .before .before .before .before .tables-of .ensures)
+    ∙ move-same (s .args .plan) (s .pre .runs) (p .result) h (s .args .asked .0) (buffersOf (s .args .area0 .now) (s .args .area1 .now) (s .args .memory .now)) (sym is)
 
 pub move-asked-spec : {M : Type 1} → statement M
 move-asked-spec =

@@ -1,72 +1,78 @@
+-- `mover::step::step` meets its contract: the number first, then a way for each. Assumes nothing.
+use mathlib.Core.Path.{_≡_, sym, _∙_}
+use Prim.Native.Nat.{_*_}
+use native.Mathlib.Omega.{arith}
+use lib.ListN.{length}
+use Rattle.bank.specs.Limits.{PASSES, ROWS}
+use Rattle.mover.proofs.Asked.{again-promise, again-ready, done-promise, done-ready, number-is, refused-promise}
+use Rattle.mover.specs.Promise.{buffersOf}
 use borrow.Author.Needs.{needs}
 use Rattle.mover.proofs.step.step.Statement.{statement}
 use Rattle.mover.proofs.step.step.Tie as tie
-use Rattle.mover.proofs.step.step.Reads as reads
-use Rattle.mover.proofs.step.step.Lts as lts
-use Rattle.mover.proofs.state.State.advanced.Reads as advanced-reads
-use Rattle.mover.proofs.state.State.kept.Reads as kept-reads
-use Rattle.mover.proofs.step.move_asked.Reads as move-asked-reads
-use Rattle.mover.proofs.step.step_number.Reads as step-number-reads
 
--- src/step.rt:123:9
+rows-long : (s : tie.Start) → length (s .args .plan .rows) ≡ PASSES * ROWS
+rows-long s = search needs
+
 step-number-requires : tie.Need-step-number-requires
 step-number-requires c κs = search needs
 
--- src/step.rt:125:9
 move-asked-requires : tie.Need-move-asked-requires
-move-asked-requires c κs = ?
+move-asked-requires c κs =
+    let s = c .before .before .before .before .before .before .before .before .before in
+    done-ready (s .args .plan) (s .args .state) (s .args .asked .0) (buffersOf (s .args .area0 .now) (s .args .area1 .now) (s .args .memory .now)) (rows-long s) (sym (number-is (s .args .plan) (s .args .state) (s .args .asked .0) (buffersOf (s .args .area0 .now) (s .args .area1 .now) (s .args .memory .now))) ∙ sym (c .before .before .before .before .step-number .ensures) ∙ c .before .before .before .if1 .taken)
 
--- src/step.rt:126:13
 advanced-requires : tie.Need-advanced-requires
 advanced-requires c κs = search needs
 
--- src/step.rt:127:9
 same-length : tie.Need-same-length
 same-length c = search needs
 
--- src/step.rt:127:9
 same-length-2 : tie.Need-same-length-2
 same-length-2 c = search needs
 
--- src/step.rt:127:9
 same-length-3 : tie.Need-same-length-3
 same-length-3 c = search needs
 
--- src/step.rt:127:9
 returns : tie.Need-returns
-returns c = ?
+returns c =
+    let s = c .before .before .before .before .before .before .before .before .before .before .before .before .before .before .before .before .before in
+    let e = sym (number-is (s .args .plan) (s .args .state) (s .args .asked .0) (buffersOf (s .args .area0 .now) (s .args .area1 .now) (s .args .memory .now))) ∙ sym (c .before .before .before .before .before .before .before .before .before .before .before .before .step-number .ensures) ∙ c .before .before .before .before .before .before .before .before .before .before .before .if1 .taken in
+    let w = c .before .before .before .before .before .before .before .move-asked in
+    done-promise (s .args .plan) (s .args .state) (s .args .asked .0) (buffersOf (s .args .area0 .now) (s .args .area1 .now) (s .args .memory .now)) (c .advanced .result) (buffersOf (w .last .1 .1 .0) (w .last .1 .1 .1 .0) (w .last .1 .1 .1 .1 .0)) e (c .advanced .ensures) (w .ensures)
 
--- src/step.rt:130:9
 move-asked-requires-2 : tie.Need-move-asked-requires-2
-move-asked-requires-2 c κs = ?
+move-asked-requires-2 c κs =
+    let s = c .before .before .before .before .before .before .before .before .before .before in
+    again-ready (s .args .plan) (s .args .state) (s .args .asked .0) (buffersOf (s .args .area0 .now) (s .args .area1 .now) (s .args .memory .now)) (rows-long s) (sym (number-is (s .args .plan) (s .args .state) (s .args .asked .0) (buffersOf (s .args .area0 .now) (s .args .area1 .now) (s .args .memory .now))) ∙ sym (c .before .before .before .before .before .step-number .ensures) ∙ c .before .before .before .if2 .taken)
 
--- src/step.rt:131:13
 kept-requires : tie.Need-kept-requires
 kept-requires c κs = search needs
 
--- src/step.rt:132:9
 same-length-4 : tie.Need-same-length-4
 same-length-4 c = search needs
 
--- src/step.rt:132:9
 same-length-5 : tie.Need-same-length-5
 same-length-5 c = search needs
 
--- src/step.rt:132:9
 same-length-6 : tie.Need-same-length-6
 same-length-6 c = search needs
 
--- src/step.rt:132:9
 returns-2 : tie.Need-returns-2
-returns-2 c = ?
+returns-2 c =
+    let s = c .before .before .before .before .before .before .before .before .before .before .before .before .before .before .before .before .before .before in
+    let e = sym (number-is (s .args .plan) (s .args .state) (s .args .asked .0) (buffersOf (s .args .area0 .now) (s .args .area1 .now) (s .args .memory .now))) ∙ sym (c .before .before .before .before .before .before .before .before .before .before .before .before .before .step-number .ensures) ∙ c .before .before .before .before .before .before .before .before .before .before .before .if2 .taken in
+    let w = c .before .before .before .before .before .before .before .move-asked2 in
+    again-promise (s .args .plan) (s .args .state) (s .args .asked .0) (buffersOf (s .args .area0 .now) (s .args .area1 .now) (s .args .memory .now)) (c .kept .result) (buffersOf (w .last .1 .1 .0) (w .last .1 .1 .1 .0) (w .last .1 .1 .1 .1 .0)) e (c .kept .ensures) (w .ensures)
 
--- src/step.rt:134:9
 kept-requires-2 : tie.Need-kept-requires-2
 kept-requires-2 c κs = search needs
 
--- src/step.rt:112:1
 returns-3 : tie.Need-returns-3
-returns-3 c = ?
+returns-3 c =
+    let s = c .before .before .before .before .before .before .before .before in
+    let k = c .before .before .before .step-number in
+    let is = k .ensures ∙ number-is (s .args .plan) (s .args .state) (s .args .asked .0) (buffersOf (s .args .area0 .now) (s .args .area1 .now) (s .args .memory .now)) in
+    refused-promise (s .args .plan) (s .args .state) (s .args .asked .0) (buffersOf (s .args .area0 .now) (s .args .area1 .now) (s .args .memory .now)) (k .result) (c .kept2 .result) is (λ e. c .before .before .if1 .left (is ∙ e)) (λ e. c .before .if2 .left (is ∙ e)) (c .kept2 .ensures)
 
 pub step-spec : {M : Type 1} → statement M
 step-spec =
