@@ -130,13 +130,17 @@ sound-total plan e =
     total-inside plan (and-both (inLimits (plan .geometry)) (countInLimits plan) (k .limits) (k .count))
 
 module _ (plan : Plan) where
-  pub length-head : length (headLines plan) ≡ 8 + length (decimal (plan .count)) + 7 + length (decimal (total (routeOf plan))) + 8 + length (decimal (resultArea plan))
+  pub head-long : length (headLines plan) ≡ length (line (passesWord ++ decimal (plan .count))) + (length (line (stepsWord ++ decimal (total (routeOf plan)))) + length (line (resultWord ++ decimal (resultArea plan))))
   unfolding headLines
+  head-long =
+      length-append (line (passesWord ++ decimal (plan .count))) (line (stepsWord ++ decimal (total (routeOf plan))) ++ line (resultWord ++ decimal (resultArea plan)))
+      ∙ ap (λ (k : ℕ). length (line (passesWord ++ decimal (plan .count))) + k) (length-append (line (stepsWord ++ decimal (total (routeOf plan)))) (line (resultWord ++ decimal (resultArea plan))))
+
+  pub length-head : length (headLines plan) ≡ 8 + length (decimal (plan .count)) + 7 + length (decimal (total (routeOf plan))) + 8 + length (decimal (resultArea plan))
   length-head =
-      length-append (line (passesWord ++ decimal (plan .count)) ++ line (stepsWord ++ decimal (total (routeOf plan)))) (line (resultWord ++ decimal (resultArea plan)))
-      ∙ omega (
+      omega (
         arith,
-        length-append (line (passesWord ++ decimal (plan .count))) (line (stepsWord ++ decimal (total (routeOf plan)))),
+        head-long,
         length-word-line passesWord (decimal (plan .count)),
         length-word-line stepsWord (decimal (total (routeOf plan))),
         length-word-line resultWord (decimal (resultArea plan)),
@@ -150,8 +154,8 @@ module _ (plan : Plan) where
   unfolding listing headLines
   listing-parts e =
       rw e
-      (sym (append-assoc (line (passesWord ++ decimal (plan .count))) (line (stepsWord ++ decimal (total (routeOf plan)))) (line (resultWord ++ decimal (resultArea plan)) ++ tailLines plan))
-      ∙ sym (append-assoc (line (passesWord ++ decimal (plan .count)) ++ line (stepsWord ++ decimal (total (routeOf plan)))) (line (resultWord ++ decimal (resultArea plan))) (tailLines plan)))
+      (sym (append-assoc (line (passesWord ++ decimal (plan .count))) (line (stepsWord ++ decimal (total (routeOf plan))) ++ line (resultWord ++ decimal (resultArea plan))) (tailLines plan)
+      ∙ ap (λ (l : List ℕ). line (passesWord ++ decimal (plan .count)) ++ l) (append-assoc (line (stepsWord ++ decimal (total (routeOf plan)))) (line (resultWord ++ decimal (resultArea plan))) (tailLines plan))))
 
   -- what is written, and the room afterwards, by the test on the room's length
   pub no-room : (room : List ℕ) → length room < length (listing plan) → (0 ≡ written plan room) × (room ≡ roomAfter plan room)

@@ -2,38 +2,21 @@ use Rattle.text.proofs.listing.put_tail.Statement.{statement}
 use Rattle.text.proofs.listing.put_tail.Tie as tie
 use Rattle.text.proofs.listing.put_tail.Reads as reads
 use Rattle.text.proofs.listing.put_tail.Lts as lts
-use Rattle.plan.proofs.store.pass_rows.Reads as pass-rows-reads
 use Rattle.text.proofs.listing.put_pass.Reads as put-pass-reads
 
 abbrev Inv-loop : tie.InvT-loop
-Inv-loop room₀ at n count rows complements i₀ p₀ room i p = ?
+Inv-loop room₀ at plan count i₀ p₀ room i p = ?
 
 abbrev μ-loop : tie.MeasureT-loop
-μ-loop room₀ at n count rows complements i₀ p₀ room i p = ?
+μ-loop room₀ at plan count i₀ p₀ room i p = ?
 
--- src/listing.rt:83:13
-cast-n : tie.Need-cast-n Inv-loop μ-loop
-cast-n c = ?
-
--- src/listing.rt:84:17
+-- src/listing.rt:87:17
 cast-count : tie.Need-cast-count Inv-loop μ-loop
 cast-count c = ?
 
--- src/listing.rt:89:5
+-- src/listing.rt:90:5
 loop-holds : tie.Need-loop-holds Inv-loop μ-loop
 loop-holds c = ?
-
--- src/listing.rt:90:20
-pass-rows-requires : tie.Need-pass-rows-requires Inv-loop μ-loop
-pass-rows-requires c κs = ?
-
--- src/listing.rt:91:44
-mul-put-pass : tie.Need-mul-put-pass Inv-loop μ-loop
-mul-put-pass c = ?
-
--- src/listing.rt:91:44
-array-read-put-pass : tie.Need-array-read-put-pass Inv-loop μ-loop
-array-read-put-pass c = ?
 
 -- src/listing.rt:91:9
 put-pass-requires : tie.Need-put-pass-requires Inv-loop μ-loop
@@ -43,19 +26,19 @@ put-pass-requires c κs = ?
 add-p : tie.Need-add-p Inv-loop μ-loop
 add-p c = ?
 
--- src/listing.rt:89:5
+-- src/listing.rt:90:5
 loop-less : tie.Need-loop-less Inv-loop μ-loop
 loop-less c = ?
 
--- src/listing.rt:89:5
+-- src/listing.rt:90:5
 loop-again : tie.Need-loop-again Inv-loop μ-loop
 loop-again c = ?
 
--- src/listing.rt:79:1
+-- src/listing.rt:83:1
 same-length : tie.Need-same-length Inv-loop μ-loop
 same-length c = ?
 
--- src/listing.rt:79:1
+-- src/listing.rt:83:1
 returns : tie.Need-returns Inv-loop μ-loop
 returns c = ?
 
@@ -65,12 +48,8 @@ put-tail-spec =
     (tie.spec
     Inv-loop
     μ-loop
-    cast-n
     cast-count
     loop-holds
-    pass-rows-requires
-    mul-put-pass
-    array-read-put-pass
     put-pass-requires
     add-p
     loop-less
