@@ -8,7 +8,7 @@ use borrow.Author.Needs.{needs}
 use lib.ListN.{length, getD, set, take, length-append}
 use borrow.Author.Tests.{not-true, not-false}
 use Rattle.text.specs.Written.{headLines, tailLines}
-use Rattle.text.proofs.Passes.{listing-none, listing-parts}
+use Rattle.text.proofs.Passes.{listing-none, listing-small, listing-parts}
 use Rattle.text.proofs.listing.listing_size.Statement.{statement}
 use Rattle.text.proofs.listing.listing_size.Tie as tie
 
@@ -25,7 +25,10 @@ tail-size-requires : tie.Need-tail-size-requires
 tail-size-requires c κs = sym (c .before .before .is-sound .ensures) ∙ not-false (c .before .before .is-sound .result) (c .before .if1 .left)
 
 add-result : tie.Need-add-result
-add-result c = ?
+add-result c =
+    let plan = c .before .before .before .before .args .plan in
+    let sound = sym (c .before .before .before .is-sound .ensures) ∙ not-false (c .before .before .before .is-sound .result) (c .before .before .if1 .left) in
+    omega (arith, listing-small plan sound (search needs), c .before .head-size .ensures, c .tail-size .ensures)
 
 returns-2 : tie.Need-returns-2
 returns-2 c = 
