@@ -2,7 +2,7 @@
 use mathlib.Core.Path.{_≡_, refl, sym, ap, ap₂, _∙_}
 use mathlib.Core.Bool.{true, false, cond}
 use mathlib.Core.List.{List, [], _∷_, _++_, append-assoc, append-nil}
-use Prim.Native.Nat.{ℕ, zero, suc, _+_, _-_, _*_, _<_, _≤_}
+use Prim.Native.Nat.{ℕ, zero, suc, _+_, _-_, _*_, _^_, _<_, _≤_}
 use native.Mathlib.Omega.{arith}
 use native.Mathlib.Nat.{suc-mul, mul-le-mul}
 use native.Mathlib.Numerals.{add-one}
@@ -17,14 +17,15 @@ use Rattle.planning.specs.declared.Plan.{Plan}
 use Rattle.planning.specs.Pass.{Pass, passAt, total}
 use Rattle.planning.specs.Stored.{storedPass, routeOf}
 use Rattle.planning.specs.Running.{countInLimits, sound}
-use Rattle.planning.proofs.Running.{sound→checked}
+use Rattle.planning.proofs.Running.{sound→checked, sound-allowed, sound-few}
 use Rattle.planning.proofs.Stored.{route-length, route-at}
 use Rattle.plan.specs.Total.{totalSteps, resultArea}
 use Rattle.plan.proofs.Judging.{total-inside}
 use Rattle.text.specs.Lines.{line, decimal, bits, rowLines}
 use Rattle.text.specs.Listing.{passesWord, stepsWord, resultWord, passWord, passLines, passesLines, listing, written, roomAfter}
-use Rattle.text.specs.Written.{put, Wrote, headLines, tailLines}
+use Rattle.text.specs.Written.{put, Wrote, headLines, passAtLines, tailLines}
 use Rattle.text.proofs.RowLines.{length-line, length-row-lines}
+use Rattle.text.proofs.Decimal.{decimal-length}
 use Rattle.text.proofs.Put.{length-word-line}
 
 -- ---- the passes
@@ -64,6 +65,11 @@ passes-size-more n p = rw (add-one p)
 
 pub square-small : (n : ℕ) → n ≤ ROWS → (n + 1) * (n + 1) ≤ (ROWS + 1) * (ROWS + 1)
 square-small n h = mul-le-mul {n₁ = n + 1} {m₁ = n + 1} {n₂ = ROWS + 1} {m₂ = ROWS + 1} (omega arith) (omega arith)
+
+pub passes-size-small : (n p : ℕ) → n ≤ ROWS → passesSize n p ≤ p * (26 + (ROWS + 1) * (ROWS + 1))
+unfolding passesSize
+passes-size-small n zero h = omega arith
+passes-size-small n (suc p) h = omega (arith, passes-size-small n p h, decimal-length p, square-small n h)
 
 module _ (plan : Plan) where
   -- the first k passes
@@ -117,11 +123,20 @@ module _ (plan : Plan) where
   tail-length fits few room = ap length (sym (up-to-all (plan .count) refl)) ∙ up-to-length fits few room (plan .count) (omega arith)
 
   -- a pass as code takes it out of the plan
-  pub pass-taken : (p : ℕ) (part : List ℕ) (c : ℕ) → plan .geometry .n ≤ ROWS → part ≡ take ROWS (drop (p * ROWS) (plan .rows)) → c ≡ getD (plan .complements) p 0
-      → record { rows = take (plan .geometry .n) part; complement = c } ≡ passOf p
-  unfolding storedPass
-  pass-taken p part c fits e f =
-      rw (e, f, take-take (plan .geometry .n) ROWS (drop (p * ROWS) (plan .rows)) fits)
+  module _ (p : ℕ) (part : List ℕ) (fits : plan .geometry .n ≤ ROWS) (is : part ≡ take ROWS (drop (p * ROWS) (plan .rows))) where
+    pub pass-parts : passAtLines plan p
+        ≡ line (passWord ++ decimal p) ++ (rowLines (plan .geometry .n) (take (plan .geometry .n) part) ++ line (bits (plan .geometry .n) (getD (plan .complements) p 0)))
+    unfolding passLines storedPass
+    pass-parts = rw (is, take-take (plan .geometry .n) ROWS (drop (p * ROWS) (plan .rows)) fits)
+
+    pub pass-parts-long : length (passAtLines plan p)
+        ≡ length (line (passWord ++ decimal p)) + (length (rowLines (plan .geometry .n) (take (plan .geometry .n) part)) + (plan .geometry .n + 1))
+    pass-parts-long =
+        ap length pass-parts
+        ∙ length-append (line (passWord ++ decimal p)) (rowLines (plan .geometry .n) (take (plan .geometry .n) part) ++ line (bits (plan .geometry .n) (getD (plan .complements) p 0)))
+        ∙ ap (λ (k : ℕ). length (line (passWord ++ decimal p)) + k)
+            (length-append (rowLines (plan .geometry .n) (take (plan .geometry .n) part)) (line (bits (plan .geometry .n) (getD (plan .complements) p 0)))
+            ∙ ap (λ (k : ℕ). length (rowLines (plan .geometry .n) (take (plan .geometry .n) part)) + k) (length-line (plan .geometry .n) (getD (plan .complements) p 0)))
 
 -- ---- the listing
 pub sound-total : (plan : Plan) → sound plan ≡ true → totalSteps plan ≡ total (routeOf plan)
@@ -130,16 +145,35 @@ sound-total plan e =
     total-inside plan (and-both (inLimits (plan .geometry)) (countInLimits plan) (k .limits) (k .count))
 
 module _ (plan : Plan) where
-  pub length-head : length (headLines plan) ≡ 8 + length (decimal (plan .count)) + 7 + length (decimal (total (routeOf plan))) + 8 + length (decimal (resultArea plan))
+  pub head-long : length (headLines plan) ≡ length (line (passesWord ++ decimal (plan .count))) + (length (line (stepsWord ++ decimal (total (routeOf plan)))) + length (line (resultWord ++ decimal (resultArea plan))))
   unfolding headLines
+  head-long =
+      length-append (line (passesWord ++ decimal (plan .count))) (line (stepsWord ++ decimal (total (routeOf plan))) ++ line (resultWord ++ decimal (resultArea plan)))
+      ∙ ap (λ (k : ℕ). length (line (passesWord ++ decimal (plan .count))) + k) (length-append (line (stepsWord ++ decimal (total (routeOf plan)))) (line (resultWord ++ decimal (resultArea plan))))
+
+  pub length-head : length (headLines plan) ≡ 8 + length (decimal (plan .count)) + 7 + length (decimal (total (routeOf plan))) + 8 + length (decimal (resultArea plan))
   length-head =
-      length-append (line (passesWord ++ decimal (plan .count)) ++ line (stepsWord ++ decimal (total (routeOf plan)))) (line (resultWord ++ decimal (resultArea plan)))
-      ∙ omega (
+      omega (
         arith,
-        length-append (line (passesWord ++ decimal (plan .count))) (line (stepsWord ++ decimal (total (routeOf plan)))),
+        head-long,
         length-word-line passesWord (decimal (plan .count)),
         length-word-line stepsWord (decimal (total (routeOf plan))),
         length-word-line resultWord (decimal (resultArea plan)),
+      )
+
+  -- the sum of the two lengths doesn't wrap
+  pub listing-small : sound plan ≡ true → length (plan .rows) ≡ PASSES * ROWS → length (headLines plan) + length (tailLines plan) < 2 ^ 64
+  listing-small e room =
+      let fits = sound-allowed plan e .n-high in
+      let few = sound-few plan e in
+      omega (
+        arith,
+        length-head,
+        decimal-length (plan .count),
+        decimal-length (total (routeOf plan)),
+        decimal-length (resultArea plan),
+        tail-length plan fits few room,
+        passes-size-small (plan .geometry .n) (plan .count) fits,
       )
 
   pub listing-none : sound plan ≡ false → listing plan ≡ []
@@ -150,8 +184,8 @@ module _ (plan : Plan) where
   unfolding listing headLines
   listing-parts e =
       rw e
-      (sym (append-assoc (line (passesWord ++ decimal (plan .count))) (line (stepsWord ++ decimal (total (routeOf plan)))) (line (resultWord ++ decimal (resultArea plan)) ++ tailLines plan))
-      ∙ sym (append-assoc (line (passesWord ++ decimal (plan .count)) ++ line (stepsWord ++ decimal (total (routeOf plan)))) (line (resultWord ++ decimal (resultArea plan))) (tailLines plan)))
+      (sym (append-assoc (line (passesWord ++ decimal (plan .count))) (line (stepsWord ++ decimal (total (routeOf plan))) ++ line (resultWord ++ decimal (resultArea plan))) (tailLines plan)
+      ∙ ap (λ (l : List ℕ). line (passesWord ++ decimal (plan .count)) ++ l) (append-assoc (line (stepsWord ++ decimal (total (routeOf plan)))) (line (resultWord ++ decimal (resultArea plan))) (tailLines plan))))
 
   -- what is written, and the room afterwards, by the test on the room's length
   pub no-room : (room : List ℕ) → length room < length (listing plan) → (0 ≡ written plan room) × (room ≡ roomAfter plan room)

@@ -72,6 +72,16 @@ module _ (room : List ℕ) (at : ℕ) (t after : List ℕ) (past : ℕ) (w : Wro
   wrote-byte x fits =
       wrote-more (x ∷ []) (set after past x) (past + 1) (record { place = refl; is = put-byte after past x (omega (arith, w .place, wrote-length (omega arith))) }) (omega arith)
 
+  -- room for more after it
+  pub wrote-fits : (k : ℕ) → at + (length t + k) ≤ length room → past + k ≤ length after
+  wrote-fits k h = omega (arith, w .place, wrote-length (omega arith))
+
+-- three texts
+pub wrote-three : (room : List ℕ) (at : ℕ) (t u v : List ℕ) (a b after : List ℕ) (i j past : ℕ) → Wrote room at t a i → Wrote a i u b j → Wrote b j v after past
+    → at + (length t + length u) ≤ length room → Wrote room at (t ++ (u ++ v)) after past
+wrote-three room at t u v a b after i j past x y z h =
+    wrote-more room at t a i x (u ++ v) after past (wrote-more a i u b j y v after past z (wrote-fits room at t a i x (length u) h)) (omega arith)
+
 -- a line of two parts
 pub length-word-line : (w d : List ℕ) → length (line (w ++ d)) ≡ length w + length d + 1
 length-word-line w d = length-append (w ++ d) (10 ∷ []) ∙ ap (λ (k : ℕ). k + 1) (length-append w d)

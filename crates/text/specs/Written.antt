@@ -3,12 +3,13 @@ use mathlib.Core.Path.{_≡_}
 use mathlib.Core.List.{List, _++_}
 use Prim.Native.Nat.{ℕ, _+_}
 use lib.ListN.{length, take, drop}
+use Rattle.bank.specs.Limits.{ROWS}
 use Rattle.planning.specs.declared.Plan.{Plan}
 use Rattle.planning.specs.Pass.{total}
-use Rattle.planning.specs.Stored.{routeOf}
+use Rattle.planning.specs.Stored.{storedPass, routeOf}
 use Rattle.plan.specs.Total.{resultArea}
 use Rattle.text.specs.Lines.{line, decimal}
-use Rattle.text.specs.Listing.{passesWord, stepsWord, resultWord, passesLines}
+use Rattle.text.specs.Listing.{passesWord, stepsWord, resultWord, passLines, passesLines}
 
 -- the room with a text at a place; all else stays
 unfoldable pub put : List ℕ → ℕ → List ℕ → List ℕ
@@ -21,7 +22,12 @@ pub record Wrote (room : List ℕ) (at : ℕ) (t : List ℕ) (after : List ℕ) 
 
 -- the three lines before the passes
 unfoldable pub headLines : Plan → List ℕ
-headLines plan = line (passesWord ++ decimal (plan .count)) ++ line (stepsWord ++ decimal (total (routeOf plan))) ++ line (resultWord ++ decimal (resultArea plan))
+headLines plan =
+    line (passesWord ++ decimal (plan .count)) ++ (line (stepsWord ++ decimal (total (routeOf plan))) ++ line (resultWord ++ decimal (resultArea plan)))
+
+-- pass p
+abbrev pub passAtLines : Plan → ℕ → List ℕ
+passAtLines plan p = passLines (plan .geometry .n) p (storedPass ROWS (plan .geometry .n) (plan .rows) (plan .complements) p)
 
 -- the passes
 abbrev pub tailLines : Plan → List ℕ

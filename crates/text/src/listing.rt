@@ -1,17 +1,16 @@
 // The listing of a plan.
 ghost use mathlib.Core.Path.{_≡_};
 ghost use mathlib.Core.Bool.{true};
-ghost use Prim.Native.Nat.{_+_, _≤_};
-ghost use lib.ListN.{length, take};
-ghost use Rattle.bank.specs.Limits.{ROWS};
+ghost use Prim.Native.Nat.{_+_, _<_, _≤_};
+ghost use lib.ListN.{length};
+ghost use Rattle.bank.specs.Limits.{ROWS, PASSES};
 ghost use Rattle.planning.specs.Running.{sound};
-ghost use Rattle.text.specs.Listing.{passLines, listing, written, roomAfter};
-ghost use Rattle.text.specs.Written.{Wrote, headLines, tailLines};
+ghost use Rattle.text.specs.Listing.{listing, written, roomAfter};
+ghost use Rattle.text.specs.Written.{Wrote, headLines, passAtLines, tailLines};
 use crate::write::decimal_size;
 use crate::write::put_line;
 use crate::write::put_row;
 use crate::write::put_rows;
-use bank::ROWS;
 use plan::running::is_sound;
 use plan::running::result_area;
 use plan::running::total_steps;
@@ -65,13 +64,18 @@ fn put_head(room: &mut [u8], plan: Plan) -> usize
     put_line(room, q, b"result ", bank::wide(result_area(plan)))
 }
 
-// A pass: its number, its n rows, its complement.
-fn put_pass(room: &mut [u8], at: usize, p: usize, rows: &[u32; ROWS], n: usize, c: u32) -> usize
-    requires { ⌜ (n ≤ ROWS) × (at + length (passLines n p (record { rows = take n (now rows); complement = c })) ≤ length (now room)) ⌝ }
-    ensures { λ r. ⌜ Wrote (now (room .entry)) at (passLines n p (record { rows = take n (now (rows .entry)); complement = c })) (now (room .exit)) r ⌝ }
+// Pass p: its number, its n rows, its complement.
+fn put_pass(room: &mut [u8], at: usize, plan: Plan, p: usize) -> usize
+    requires { ⌜ (plan .geometry .n ≤ ROWS) × (p < PASSES) × (at + length (passAtLines plan p) ≤ length (now room)) ⌝ }
+    ensures { λ r. ⌜ Wrote (now (room .entry)) at (passAtLines plan p) (now (room .exit)) r ⌝ }
 {
+    let n = plan.geometry.n as usize;
+    let all = plan.rows;
+    let rows = pass_rows(&all, p);
+    let complements = plan.complements;
+    let c = complements[p];
     let i = put_line(room, at, b"pass ", p as u64);
-    let j = put_rows(room, i, rows, n);
+    let j = put_rows(room, i, &rows, n);
     put_row(room, j, c, n)
 }
 
@@ -80,15 +84,11 @@ fn put_tail(room: &mut [u8], at: usize, plan: Plan) -> usize
     requires { ⌜ (sound plan ≡ true) × (at + length (tailLines plan) ≤ length (now room)) ⌝ }
     ensures { λ r. ⌜ Wrote (now (room .entry)) at (tailLines plan) (now (room .exit)) r ⌝ }
 {
-    let n = plan.geometry.n as usize;
     let count = plan.count as usize;
-    let rows = plan.rows;
-    let complements = plan.complements;
     let mut i = at;
     let mut p = 0usize;
     while p < count {
-        let part = pass_rows(&rows, p);
-        i = put_pass(room, i, p, &part, n, complements[p]);
+        i = put_pass(room, i, plan, p);
         p += 1;
     }
     i

@@ -1,60 +1,80 @@
+-- `text::listing::put_head` meets its contract: three lines, one after the other. Assumes nothing.
+use mathlib.Core.Path.{_≡_, refl, sym, ap, _∙_, subst}
+use mathlib.Core.List.{List, [], _∷_, _++_}
+use Prim.Native.Nat.{ℕ, _+_, _-_, _*_, _/_, _%_, _^_, _<_, _≤_}
+use native.Mathlib.Omega.{arith}
+use native.Mathlib.Numerals.{add-one}
 use borrow.Author.Needs.{needs}
+use lib.ListN.{length, getD, set, take, length-append}
+use Rattle.planning.specs.Pass.{total}
+use Rattle.planning.specs.Stored.{routeOf}
+use Rattle.plan.specs.Total.{totalSteps, resultArea}
+use Rattle.text.specs.Lines.{line, decimal}
+use Rattle.text.specs.Listing.{passesWord, stepsWord, resultWord}
+use Rattle.text.specs.Written.{Wrote, headLines}
+use Rattle.text.proofs.Put.{wrote-three, wrote-more, wrote-fits}
+use Rattle.text.proofs.Passes.{head-long, sound-total}
 use Rattle.text.proofs.listing.put_head.Statement.{statement}
 use Rattle.text.proofs.listing.put_head.Tie as tie
-use Rattle.text.proofs.listing.put_head.Reads as reads
-use Rattle.text.proofs.listing.put_head.Lts as lts
-use Rattle.bank.proofs.wide.Reads as wide-reads
-use Rattle.plan.proofs.running.result_area.Reads as result-area-reads
-use Rattle.plan.proofs.running.total_steps.Reads as total-steps-reads
-use Rattle.text.proofs.write.put_line.Reads as put-line-reads
 
--- src/listing.rt:63:31
 slice-aggregate-put-line : tie.Need-slice-aggregate-put-line
 slice-aggregate-put-line c = search needs
 
--- src/listing.rt:63:43
 wide-requires : tie.Need-wide-requires
 wide-requires c κs = search needs
 
--- src/listing.rt:63:9
 put-line-requires : tie.Need-put-line-requires
-put-line-requires c κs = ?
+put-line-requires c κs = let plan = c .before .before .before .before .args .plan in rw (c .wide .ensures) (omega (arith, head-long plan, c .before .before .before .before .pre .1))
 
--- src/listing.rt:64:31
 slice-aggregate-put-line-2 : tie.Need-slice-aggregate-put-line-2
 slice-aggregate-put-line-2 c = search needs
 
--- src/listing.rt:64:42
 total-steps-requires : tie.Need-total-steps-requires
 total-steps-requires c κs = search needs
 
--- src/listing.rt:64:9
 put-line-requires-2 : tie.Need-put-line-requires-2
-put-line-requires-2 c κs = ?
+put-line-requires-2 c κs = 
+    let plan = c .before .before .before .before .before .before .before .before .before .before .args .plan in
+    let room = c .before .before .before .before .before .before .before .before .before .before .args .room .now in
+    let one : Wrote room 0 (line (passesWord ++ decimal (plan .count))) _ _ = rw (c .before .before .before .before .before .before .wide .ensures) at (c .before .before .before .before .before .put-line .ensures) in
+    let steps = c .total-steps .ensures ∙ sound-total plan (c .before .before .before .before .before .before .before .before .before .before .pre .0) in
+    rw steps (wrote-fits room 0 (line (passesWord ++ decimal (plan .count))) _ _ one (length (line (stepsWord ++ decimal (total (routeOf plan))))) (omega (arith, head-long plan, c .before .before .before .before .before .before .before .before .before .before .pre .1)))
 
--- src/listing.rt:65:23
 slice-aggregate-put-line-3 : tie.Need-slice-aggregate-put-line-3
 slice-aggregate-put-line-3 c = search needs
 
--- src/listing.rt:65:46
 result-area-requires : tie.Need-result-area-requires
 result-area-requires c κs = search needs
 
--- src/listing.rt:65:35
 wide-requires-2 : tie.Need-wide-requires-2
 wide-requires-2 c κs = search needs
 
--- src/listing.rt:65:5
 put-line-requires-3 : tie.Need-put-line-requires-3
-put-line-requires-3 c κs = ?
+put-line-requires-3 c κs = 
+    let plan = c .before .before .before .before .before .before .before .before .before .before .before .before .before .before .before .before .before .args .plan in
+    let room = c .before .before .before .before .before .before .before .before .before .before .before .before .before .before .before .before .before .args .room .now in
+    let one : Wrote room 0 (line (passesWord ++ decimal (plan .count))) _ _ = rw (c .before .before .before .before .before .before .before .before .before .before .before .before .before .wide .ensures) at (c .before .before .before .before .before .before .before .before .before .before .before .before .put-line .ensures) in
+    let steps = c .before .before .before .before .before .before .before .total-steps .ensures ∙ sound-total plan (c .before .before .before .before .before .before .before .before .before .before .before .before .before .before .before .before .before .pre .0) in
+    let two : Wrote _ _ (line (stepsWord ++ decimal (total (routeOf plan)))) _ _ = rw steps at (c .before .before .before .before .before .before .put-line2 .ensures) in
+    let long = head-long plan in
+    let both = wrote-more room 0 (line (passesWord ++ decimal (plan .count))) _ _ one (line (stepsWord ++ decimal (total (routeOf plan)))) _ _ two (omega (arith, c .before .before .before .before .before .before .before .before .before .before .before .before .before .before .before .before .before .pre .1)) in
+    rw (c .wide2 .ensures ∙ c .before .result-area .ensures)
+    (wrote-fits room 0 (line (passesWord ++ decimal (plan .count)) ++ line (stepsWord ++ decimal (total (routeOf plan)))) _ _ both (length (line (resultWord ++ decimal (resultArea plan)))) (omega (arith, length-append (line (passesWord ++ decimal (plan .count))) (line (stepsWord ++ decimal (total (routeOf plan)))), c .before .before .before .before .before .before .before .before .before .before .before .before .before .before .before .before .before .pre .1)))
 
--- src/listing.rt:59:1
 same-length : tie.Need-same-length
 same-length c = search needs
 
--- src/listing.rt:59:1
 returns : tie.Need-returns
-returns c = ?
+unfolding headLines
+returns c = 
+    let plan = c .before .before .before .before .before .before .before .before .before .before .before .before .before .before .before .before .before .before .before .before .args .plan in
+    let room = c .before .before .before .before .before .before .before .before .before .before .before .before .before .before .before .before .before .before .before .before .args .room .now in
+    let one : Wrote room 0 (line (passesWord ++ decimal (plan .count))) _ _ = rw (c .before .before .before .before .before .before .before .before .before .before .before .before .before .before .before .before .wide .ensures) at (c .before .before .before .before .before .before .before .before .before .before .before .before .before .before .before .put-line .ensures) in
+    let steps = c .before .before .before .before .before .before .before .before .before .before .total-steps .ensures ∙ sound-total plan (c .before .before .before .before .before .before .before .before .before .before .before .before .before .before .before .before .before .before .before .before .pre .0) in
+    let two : Wrote _ _ (line (stepsWord ++ decimal (total (routeOf plan)))) _ _ = rw steps at (c .before .before .before .before .before .before .before .before .before .put-line2 .ensures) in
+    let long = head-long plan in
+    let three : Wrote _ _ (line (resultWord ++ decimal (resultArea plan))) _ _ = rw (c .before .before .before .wide2 .ensures ∙ c .before .before .before .before .result-area .ensures) at (c .before .before .put-line3 .ensures) in
+    wrote-three room 0 (line (passesWord ++ decimal (plan .count))) (line (stepsWord ++ decimal (total (routeOf plan)))) (line (resultWord ++ decimal (resultArea plan))) _ _ _ _ _ _ one two three (omega (arith, c .before .before .before .before .before .before .before .before .before .before .before .before .before .before .before .before .before .before .before .before .pre .1))
 
 pub put-head-spec : {M : Type 1} → statement M
 put-head-spec =

@@ -1,63 +1,73 @@
+-- `text::listing::put_tail` meets its contract: after p turns the first p passes stand there. Assumes nothing.
+use mathlib.Core.Path.{_≡_, refl, sym, ap, _∙_, subst}
+use mathlib.Core.List.{List, [], _∷_, _++_}
+use Prim.Native.Nat.{ℕ, _+_, _-_, _*_, _/_, _%_, _^_, _<_, _≤_}
+use native.Mathlib.Omega.{arith}
+use native.Mathlib.Numerals.{add-one}
+use borrow.Author.Needs.{needs}
+use lib.ListN.{length, getD, set, take, length-append}
+use Rattle.planning.proofs.Running.{sound-allowed, sound-few}
+use Rattle.text.specs.Written.{Wrote, passAtLines, tailLines}
+use Rattle.text.proofs.Put.{wrote-none, wrote-more, wrote-length, wrote-fits}
+use Rattle.text.proofs.Passes.{upTo, up-to-none, up-to-more, up-to-short, up-to-all}
 use Rattle.text.proofs.listing.put_tail.Statement.{statement}
 use Rattle.text.proofs.listing.put_tail.Tie as tie
-use Rattle.text.proofs.listing.put_tail.Reads as reads
-use Rattle.text.proofs.listing.put_tail.Lts as lts
-use Rattle.plan.proofs.store.pass_rows.Reads as pass-rows-reads
-use Rattle.text.proofs.listing.put_pass.Reads as put-pass-reads
 
 abbrev Inv-loop : tie.InvT-loop
-Inv-loop room₀ at n count rows complements i₀ p₀ room i p = ?
+Inv-loop room₀ at plan count i₀ p₀ room i p = (p ≤ count) × (length room ≡ length room₀) × Wrote room₀ at (upTo plan p) room i
 
 abbrev μ-loop : tie.MeasureT-loop
-μ-loop room₀ at n count rows complements i₀ p₀ room i p = ?
+μ-loop room₀ at plan count i₀ p₀ room i p = count - p
 
--- src/listing.rt:83:13
-cast-n : tie.Need-cast-n Inv-loop μ-loop
-cast-n c = ?
-
--- src/listing.rt:84:17
 cast-count : tie.Need-cast-count Inv-loop μ-loop
-cast-count c = ?
+cast-count c = search needs
 
--- src/listing.rt:89:5
 loop-holds : tie.Need-loop-holds Inv-loop μ-loop
-loop-holds c = ?
+loop-holds c = 
+    let a = c .before .before .args in
+    (omega arith, refl, rw (up-to-none (a .plan)) (wrote-none (a .room .now) (a .at)))
 
--- src/listing.rt:90:20
-pass-rows-requires : tie.Need-pass-rows-requires Inv-loop μ-loop
-pass-rows-requires c κs = ?
-
--- src/listing.rt:91:44
-mul-put-pass : tie.Need-mul-put-pass Inv-loop μ-loop
-mul-put-pass c = ?
-
--- src/listing.rt:91:44
-array-read-put-pass : tie.Need-array-read-put-pass Inv-loop μ-loop
-array-read-put-pass c = ?
-
--- src/listing.rt:91:9
 put-pass-requires : tie.Need-put-pass-requires Inv-loop μ-loop
-put-pass-requires c κs = ?
+put-pass-requires c κs = 
+    let a = c .before .before .before .before .before .args in
+    let l = c .before .before .loop in
+    let more = up-to-more (a .plan) (l .p) (omega arith) in
+    let short = up-to-short (a .plan) (l .p + 1) in
+    let sizes = ap length more ∙ length-append (upTo (a .plan) (l .p)) (passAtLines (a .plan) (l .p)) in
+    let few = sound-few (a .plan) (c .before .before .before .before .before .pre .0) in (
+      sound-allowed (a .plan) (c .before .before .before .before .before .pre .0) .n-high,
+      omega arith,
+      wrote-fits (a .room .now) (a .at) (upTo (a .plan) (l .p)) (l .room) (l .i) (l .inv .2) (length (passAtLines (a .plan) (l .p))) (omega (arith, c .before .before .before .before .before .pre .1)),
+    )
 
--- src/listing.rt:92:9
 add-p : tie.Need-add-p Inv-loop μ-loop
-add-p c = ?
+add-p c = omega arith
 
--- src/listing.rt:89:5
 loop-less : tie.Need-loop-less Inv-loop μ-loop
-loop-less c = ?
+loop-less c = omega arith
 
--- src/listing.rt:89:5
 loop-again : tie.Need-loop-again Inv-loop μ-loop
-loop-again c = ?
+loop-again c = 
+    let a = c .before .before .before .before .before .before .before .before .args in
+    let l = c .before .before .before .before .before .loop in
+    let more = up-to-more (a .plan) (l .p) (omega arith) in
+    let short = up-to-short (a .plan) (l .p + 1) in
+    let sizes = ap length more ∙ length-append (upTo (a .plan) (l .p)) (passAtLines (a .plan) (l .p)) in
+    let w = c .before .before .put-pass .ensures in
+    let both = wrote-more (a .room .now) (a .at) (upTo (a .plan) (l .p)) (l .room) (l .i) (l .inv .2) (passAtLines (a .plan) (l .p)) _ _ w (omega (arith, c .before .before .before .before .before .before .before .before .pre .1)) in (
+      omega arith,
+      wrote-length (a .room .now) (a .at) (upTo (a .plan) (l .p) ++ passAtLines (a .plan) (l .p)) _ _ both (omega (arith, c .before .before .before .before .before .before .before .before .pre .1, length-append (upTo (a .plan) (l .p)) (passAtLines (a .plan) (l .p)))),
+      rw more both,
+    )
 
--- src/listing.rt:79:1
 same-length : tie.Need-same-length Inv-loop μ-loop
-same-length c = ?
+same-length c = c .before .loop .inv .1
 
--- src/listing.rt:79:1
 returns : tie.Need-returns Inv-loop μ-loop
-returns c = ?
+returns c = 
+    let l = c .before .loop in
+    let plan = c .before .before .before .before .args .plan in
+    rw (up-to-all plan (l .p) (omega arith)) at (l .inv .2)
 
 pub put-tail-spec : {M : Type 1} → statement M
 put-tail-spec =
@@ -65,12 +75,8 @@ put-tail-spec =
     (tie.spec
     Inv-loop
     μ-loop
-    cast-n
     cast-count
     loop-holds
-    pass-rows-requires
-    mul-put-pass
-    array-read-put-pass
     put-pass-requires
     add-p
     loop-less
