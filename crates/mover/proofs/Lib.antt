@@ -9,3 +9,4 @@ pub mod Steps
 pub mod Sides
 pub mod Plans
 pub mod Asked
+pub mod Main
