@@ -135,8 +135,8 @@ module _ (plan : Plan) where
         ap length pass-parts
         ∙ length-append (line (passWord ++ decimal p)) (rowLines (plan .geometry .n) (take (plan .geometry .n) part) ++ line (bits (plan .geometry .n) (getD (plan .complements) p 0)))
         ∙ ap (λ (k : ℕ). length (line (passWord ++ decimal p)) + k)
-            (length-append (rowLines (plan .geometry .n) (take (plan .geometry .n) part)) (line (bits (plan .geometry .n) (getD (plan .complements) p 0)))
-            ∙ ap (λ (k : ℕ). length (rowLines (plan .geometry .n) (take (plan .geometry .n) part)) + k) (length-line (plan .geometry .n) (getD (plan .complements) p 0)))
+        (length-append (rowLines (plan .geometry .n) (take (plan .geometry .n) part)) (line (bits (plan .geometry .n) (getD (plan .complements) p 0)))
+        ∙ ap (λ (k : ℕ). length (rowLines (plan .geometry .n) (take (plan .geometry .n) part)) + k) (length-line (plan .geometry .n) (getD (plan .complements) p 0)))
 
 -- ---- the listing
 pub sound-total : (plan : Plan) → sound plan ≡ true → totalSteps plan ≡ total (routeOf plan)

@@ -22,13 +22,30 @@ const MEMORY: usize = 32;
 // More than either.
 const LONG: usize = 136;
 
-// Every byte of record x becomes first + x.
+// Byte i of a buffer whose records are labelled by their addresses, from first on.
+fn label_of(i: usize, first: u64) -> u8 {
+    ((first % 256 + (i / 8) as u64 % 64) % 256) as u8
+}
+
 fn label(area: &mut [u8], first: u64) {
     let mut i = 0;
     while i < area.len() {
-        area[i] = ((first + (i / 8) as u64 % 64) % 256) as u8;
+        area[i] = label_of(i, first);
         i += 1;
     }
+}
+
+// How many bytes are not those of their label.
+fn changed(area: &[u8], first: u64) -> u64 {
+    let mut count = 0u64;
+    let mut i = 0;
+    while i < area.len() {
+        if area[i] != label_of(i, first) {
+            count = count % 1000000 + 1;
+        }
+        i += 1;
+    }
+    count
 }
 
 fn number(s: Stepped) -> u64 {
@@ -45,21 +62,6 @@ fn state(s: Stepped) -> State {
         Stepped::Again(t) => t,
         Stepped::Refused(_, t) => t,
     }
-}
-
-// How many of the first bytes of a and b differ.
-fn differing(a: &[u8], b: &[u8]) -> u64 {
-    let mut count = 0u64;
-    let mut i = 0;
-    while i < a.len() {
-        if i < b.len() {
-            if a[i] != b[i] {
-                count = count % 1000000 + 1;
-            }
-        }
-        i += 1;
-    }
-    count
 }
 
 fn reversal() -> Plan {
@@ -97,7 +99,32 @@ fn go(
     r.state
 }
 
-// Step 1 of the reversal writes places 0, 1, 10 and 11 of area 1, and nothing else changes.
+// Byte i of area 1 after step 1 of the reversal: places 0, 1, 10 and 11 have the load's records, and nothing else changed.
+fn after_write(i: usize) -> u8 {
+    if i < 16 {
+        return label_of(i, 50);
+    }
+    if i < 80 {
+        return label_of(i, 150);
+    }
+    if i < 96 {
+        return label_of(i - 64, 50);
+    }
+    label_of(i, 150)
+}
+
+fn wrongly_written(area: &[u8]) -> u64 {
+    let mut count = 0u64;
+    let mut i = 0;
+    while i < area.len() {
+        if area[i] != after_write(i) {
+            count = count % 1000000 + 1;
+        }
+        i += 1;
+    }
+    count
+}
+
 pub fn one_write() {
     let p = reversal();
     let mut area0 = [0u8; AREA];
@@ -105,14 +132,6 @@ pub fn one_write() {
     let mut memory = [0u8; MEMORY];
     label(&mut area0, 50);
     label(&mut area1, 150);
-    let mut right = area1;
-    let mut i = 0;
-    while i < 16 {
-        right[i] = area0[i];
-        right[80 + i] = area0[16 + i];
-        i += 1;
-    }
-    let before = area0;
     let s = ask(
         b"reversal, step 0",
         p,
@@ -131,12 +150,9 @@ pub fn one_write() {
         &mut area1,
         &mut memory,
     );
-    say::one(b"bytes of area 1 that are wrong", differing(&area1, &right));
-    say::one(b"bytes of area 0 that changed", differing(&area0, &before));
-    say::one(
-        b"bytes of memory that are wrong",
-        differing(&memory, &before),
-    );
+    say::one(b"bytes of area 1 that are wrong", wrongly_written(&area1));
+    say::one(b"bytes of area 0 that changed", changed(&area0, 50));
+    say::one(b"bytes of memory that are wrong", changed(&memory, 50));
 }
 
 // The numbers of steps in and out of turn.
@@ -223,7 +239,18 @@ pub fn in_turn() {
     );
 }
 
-// A call with parts of three long buffers, of the lengths given; then how many bytes changed.
+// A call with three labelled buffers; then how many bytes of each changed.
+fn lent_on(asked: &[u8], p: Plan, k: u64, area0: &mut [u8], area1: &mut [u8], memory: &mut [u8]) {
+    ask(asked, p, State::fresh(), k, area0, area1, memory);
+    say::three(
+        b"bytes that changed",
+        changed(area0, 50),
+        changed(area1, 150),
+        changed(memory, 100),
+    );
+}
+
+// The same with the first bytes of three long buffers, of the lengths given.
 fn lent(asked: &[u8], p: Plan, k: u64, l0: usize, l1: usize, lm: usize) {
     let mut area0 = [0u8; LONG];
     let mut area1 = [0u8; LONG];
@@ -231,16 +258,12 @@ fn lent(asked: &[u8], p: Plan, k: u64, l0: usize, l1: usize, lm: usize) {
     label(&mut area0, 50);
     label(&mut area1, 150);
     label(&mut memory, 100);
-    let before0 = area0;
-    let before1 = area1;
-    let before2 = memory;
     if l0 <= LONG {
         if l1 <= LONG {
             if lm <= LONG {
-                ask(
+                lent_on(
                     asked,
                     p,
-                    State::fresh(),
                     k,
                     &mut area0[0..l0],
                     &mut area1[0..l1],
@@ -249,12 +272,6 @@ fn lent(asked: &[u8], p: Plan, k: u64, l0: usize, l1: usize, lm: usize) {
             }
         }
     }
-    say::three(
-        b"bytes that changed",
-        differing(&area0, &before0),
-        differing(&area1, &before1),
-        differing(&memory, &before2),
-    );
 }
 
 // Wrong lengths, and the order of the checks.
@@ -311,7 +328,7 @@ fn arrived(o: Order, area: &[u8], n: u64) -> u64 {
         let t = target_of(o, Address(x));
         let at = (t.address.0 % 1000000) as usize * 8;
         if at + 7 < area.len() {
-            if area[at] as u64 == (50 + x % 64) % 256 {
+            if area[at] == ((50 + x % 64) % 256) as u8 {
                 if area[at + 7] == area[at] {
                     count = count % 1000000 + 1;
                 }
@@ -323,25 +340,32 @@ fn arrived(o: Order, area: &[u8], n: u64) -> u64 {
 }
 
 // A whole run with each step again: steps answered rightly, and records that arrived.
+fn whole_on(asked: &[u8], o: Order, n: u64, area0: &mut [u8], area1: &mut [u8], memory: &mut [u8]) {
+    let made = make_plan(o);
+    let p = made.plan;
+    label(area0, 50);
+    let right = twice(p, area0, area1, memory);
+    if result_area(p) == 0 {
+        say::two(asked, right, arrived(o, area0, n));
+    } else {
+        say::two(asked, right, arrived(o, area1, n));
+    }
+}
+
 fn whole(asked: &[u8], o: Order, n: u64, bytes: usize, room: usize) {
-    let p = make_plan(o);
     let mut area0 = [0u8; AREA];
     let mut area1 = [0u8; AREA];
     let mut memory = [0u8; MEMORY];
-    label(&mut area0, 50);
     if bytes <= AREA {
         if room <= MEMORY {
-            let right = twice(
-                p.plan,
+            whole_on(
+                asked,
+                o,
+                n,
                 &mut area0[0..bytes],
                 &mut area1[0..bytes],
                 &mut memory[0..room],
             );
-            if result_area(p.plan) == 0 {
-                say::two(asked, right, arrived(o, &area0, n));
-            } else {
-                say::two(asked, right, arrived(o, &area1, n));
-            }
         }
     }
 }

@@ -31,7 +31,7 @@ add-result c =
     omega (arith, listing-small plan sound (search needs), c .before .head-size .ensures, c .tail-size .ensures)
 
 returns-2 : tie.Need-returns-2
-returns-2 c = 
+returns-2 c =
     let plan = c .before .before .before .before .args .plan in
     let sound = sym (c .before .before .before .is-sound .ensures) ∙ not-false (c .before .before .before .is-sound .result) (c .before .before .if1 .left) in
     omega (arith, ap length (listing-parts plan sound) ∙ length-append (headLines plan) (tailLines plan), c .before .head-size .ensures, c .tail-size .ensures)

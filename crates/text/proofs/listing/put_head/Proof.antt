@@ -33,7 +33,7 @@ total-steps-requires : tie.Need-total-steps-requires
 total-steps-requires c κs = search needs
 
 put-line-requires-2 : tie.Need-put-line-requires-2
-put-line-requires-2 c κs = 
+put-line-requires-2 c κs =
     let plan = c .before .before .before .before .before .before .before .before .before .before .args .plan in
     let room = c .before .before .before .before .before .before .before .before .before .before .args .room .now in
     let one : Wrote room 0 (line (passesWord ++ decimal (plan .count))) _ _ = rw (c .before .before .before .before .before .before .wide .ensures) at (c .before .before .before .before .before .put-line .ensures) in
@@ -50,7 +50,7 @@ wide-requires-2 : tie.Need-wide-requires-2
 wide-requires-2 c κs = search needs
 
 put-line-requires-3 : tie.Need-put-line-requires-3
-put-line-requires-3 c κs = 
+put-line-requires-3 c κs =
     let plan = c .before .before .before .before .before .before .before .before .before .before .before .before .before .before .before .before .before .args .plan in
     let room = c .before .before .before .before .before .before .before .before .before .before .before .before .before .before .before .before .before .args .room .now in
     let one : Wrote room 0 (line (passesWord ++ decimal (plan .count))) _ _ = rw (c .before .before .before .before .before .before .before .before .before .before .before .before .before .wide .ensures) at (c .before .before .before .before .before .before .before .before .before .before .before .before .put-line .ensures) in
@@ -66,7 +66,7 @@ same-length c = search needs
 
 returns : tie.Need-returns
 unfolding headLines
-returns c = 
+returns c =
     let plan = c .before .before .before .before .before .before .before .before .before .before .before .before .before .before .before .before .before .before .before .before .args .plan in
     let room = c .before .before .before .before .before .before .before .before .before .before .before .before .before .before .before .before .before .before .before .before .args .room .now in
     let one : Wrote room 0 (line (passesWord ++ decimal (plan .count))) _ _ = rw (c .before .before .before .before .before .before .before .before .before .before .before .before .before .before .before .before .wide .ensures) at (c .before .before .before .before .before .before .before .before .before .before .before .before .before .before .before .put-line .ensures) in

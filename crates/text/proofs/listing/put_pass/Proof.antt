@@ -30,7 +30,7 @@ slice-aggregate-put-line : tie.Need-slice-aggregate-put-line
 slice-aggregate-put-line c = search needs
 
 put-line-requires : tie.Need-put-line-requires
-put-line-requires c κs = 
+put-line-requires c κs =
     let a = c .before .before .before .before .before .before .before .before .args in
     let n = a .plan .geometry .n in
     let part = c .before .before .before .pass-rows in
@@ -41,7 +41,7 @@ put-line-requires c κs =
     omega arith
 
 put-rows-requires : tie.Need-put-rows-requires
-put-rows-requires c κs = 
+put-rows-requires c κs =
     let a = c .before .before .before .before .before .before .before .before .before .before .before .before .before .args in
     let n = a .plan .geometry .n in
     let part = c .before .before .before .before .before .before .before .before .pass-rows in
@@ -52,7 +52,7 @@ put-rows-requires c κs =
     (fits, wrote-fits (a .room .now) (a .at) (line (passWord ++ decimal (a .p))) _ _ (c .before .before .before .before .put-line .ensures) (length rows) (omega arith))
 
 put-row-requires : tie.Need-put-row-requires
-put-row-requires c κs = 
+put-row-requires c κs =
     let a = c .before .before .before .before .before .before .before .before .before .before .before .before .before .before .before .before .before .args in
     let n = a .plan .geometry .n in
     let part = c .before .before .before .before .before .before .before .before .before .before .before .before .pass-rows in
@@ -67,7 +67,7 @@ same-length : tie.Need-same-length
 same-length c = search needs
 
 returns : tie.Need-returns
-returns c = 
+returns c =
     let a = c .before .before .before .before .before .before .before .before .before .before .before .before .before .before .before .before .before .before .before .before .args in
     let n = a .plan .geometry .n in
     let part = c .before .before .before .before .before .before .before .before .before .before .before .before .before .before .before .pass-rows in

@@ -1,74 +1,62 @@
+-- `trials::steps::arrived` is safe and ends: every place is tested against the area's length. Assumes nothing.
+use mathlib.Core.Path.{_≡_}
+use Prim.Native.Nat.{_≤_, _-_}
+use native.Mathlib.Omega.{arith}
+use lib.ListN.{length, length-set}
+use borrow.Author.Needs.{needs}
 use Rattle.trials.proofs.steps.arrived.Statement.{statement}
 use Rattle.trials.proofs.steps.arrived.Tie as tie
-use Rattle.trials.proofs.steps.arrived.Reads as reads
-use Rattle.trials.proofs.steps.arrived.Lts as lts
-use Rattle.order.proofs.address.target_of.Reads as target-of-reads
 
 abbrev Inv-loop : tie.InvT-loop
-Inv-loop o area n count₀ x₀ count x = ?
+Inv-loop o area n count₀ x₀ count x = x ≤ n
 
 abbrev μ-loop : tie.MeasureT-loop
-μ-loop o area n count₀ x₀ count x = ?
+μ-loop o area n count₀ x₀ count x = n - x
 
--- src/steps.rt:310:5
 loop-holds : tie.Need-loop-holds Inv-loop μ-loop
-loop-holds c = ?
+loop-holds c = search needs
 
--- src/steps.rt:311:13
 target-of-requires : tie.Need-target-of-requires Inv-loop μ-loop
-target-of-requires c κs = ?
+target-of-requires c κs = search needs
 
--- src/steps.rt:312:18
 mul-at : tie.Need-mul-at Inv-loop μ-loop
-mul-at c = ?
+mul-at c = search needs
 
--- src/steps.rt:313:12
 add-if1 : tie.Need-add-if1 Inv-loop μ-loop
-add-if1 c = ?
+add-if1 c = search needs
 
--- src/steps.rt:314:16
 shared-slice-read-if2 : tie.Need-shared-slice-read-if2 Inv-loop μ-loop
-shared-slice-read-if2 c = ?
+shared-slice-read-if2 c = search needs
 
--- src/steps.rt:314:16
-cast-if2 : tie.Need-cast-if2 Inv-loop μ-loop
-cast-if2 c = ?
-
--- src/steps.rt:314:36
 add-if2 : tie.Need-add-if2 Inv-loop μ-loop
-add-if2 c = ?
+add-if2 c = search needs
 
--- src/steps.rt:315:25
+cast-if2 : tie.Need-cast-if2 Inv-loop μ-loop
+cast-if2 c = search needs
+
 add-if3 : tie.Need-add-if3 Inv-loop μ-loop
-add-if3 c = ?
+add-if3 c = search needs
 
--- src/steps.rt:315:20
 shared-slice-read-if3 : tie.Need-shared-slice-read-if3 Inv-loop μ-loop
-shared-slice-read-if3 c = ?
+shared-slice-read-if3 c = search needs
 
--- src/steps.rt:315:36
 shared-slice-read-if3-2 : tie.Need-shared-slice-read-if3-2 Inv-loop μ-loop
-shared-slice-read-if3-2 c = ?
+shared-slice-read-if3-2 c = search needs
 
--- src/steps.rt:316:29
 add-count : tie.Need-add-count Inv-loop μ-loop
-add-count c = ?
+add-count c = search needs
 
--- src/steps.rt:320:9
 add-x : tie.Need-add-x Inv-loop μ-loop
-add-x c = ?
+add-x c = search needs
 
--- src/steps.rt:310:5
 loop-less : tie.Need-loop-less Inv-loop μ-loop
-loop-less c = ?
+loop-less c = search needs
 
--- src/steps.rt:310:5
 loop-again : tie.Need-loop-again Inv-loop μ-loop
-loop-again c = ?
+loop-again c = search needs
 
--- src/steps.rt:307:1
 returns : tie.Need-returns Inv-loop μ-loop
-returns c = ?
+returns c = search needs
 
 pub arrived-spec : {M : Type 1} → statement M
 arrived-spec =
@@ -81,8 +69,8 @@ arrived-spec =
     mul-at
     add-if1
     shared-slice-read-if2
-    cast-if2
     add-if2
+    cast-if2
     add-if3
     shared-slice-read-if3
     shared-slice-read-if3-2

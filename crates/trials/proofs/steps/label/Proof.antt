@@ -1,49 +1,41 @@
+-- `trials::steps::label` is safe and ends: every byte is stored inside the area. Assumes nothing.
+use mathlib.Core.Path.{_≡_}
+use Prim.Native.Nat.{_≤_, _-_}
+use native.Mathlib.Omega.{arith}
+use lib.ListN.{length, length-set}
+use borrow.Author.Needs.{needs}
 use Rattle.trials.proofs.steps.label.Statement.{statement}
 use Rattle.trials.proofs.steps.label.Tie as tie
-use Rattle.trials.proofs.steps.label.Reads as reads
-use Rattle.trials.proofs.steps.label.Lts as lts
 
 abbrev Inv-loop : tie.InvT-loop
-Inv-loop area₀ first i₀ area i = ?
+Inv-loop area₀ first i₀ area i = (i ≤ length area₀) × (length area ≡ length area₀)
 
 abbrev μ-loop : tie.MeasureT-loop
-μ-loop area₀ first i₀ area i = ?
+μ-loop area₀ first i₀ area i = length area₀ - i
 
--- src/steps.rt:28:5
 loop-holds : tie.Need-loop-holds Inv-loop μ-loop
-loop-holds c = ?
+loop-holds c = search needs
 
--- src/steps.rt:29:21
-add-area : tie.Need-add-area Inv-loop μ-loop
-add-area c = ?
+label-of-requires : tie.Need-label-of-requires Inv-loop μ-loop
+label-of-requires c κs = search needs
 
--- src/steps.rt:29:19
-cast-area : tie.Need-cast-area Inv-loop μ-loop
-cast-area c = ?
-
--- src/steps.rt:29:9
 slice-write-area : tie.Need-slice-write-area Inv-loop μ-loop
-slice-write-area c = ?
+slice-write-area c = search needs
 
--- src/steps.rt:30:9
 add-i : tie.Need-add-i Inv-loop μ-loop
-add-i c = ?
+add-i c = search needs
 
--- src/steps.rt:28:5
 loop-less : tie.Need-loop-less Inv-loop μ-loop
-loop-less c = ?
+loop-less c = search needs
 
--- src/steps.rt:28:5
 loop-again : tie.Need-loop-again Inv-loop μ-loop
-loop-again c = ?
+loop-again c = (omega arith, simp length-set (c .before .before .loop .inv .1))
 
--- src/steps.rt:26:1
 same-length : tie.Need-same-length Inv-loop μ-loop
-same-length c = ?
+same-length c = search needs
 
--- src/steps.rt:26:1
 returns : tie.Need-returns Inv-loop μ-loop
-returns c = ?
+returns c = search needs
 
 pub label-spec : {M : Type 1} → statement M
 label-spec =
@@ -52,8 +44,7 @@ label-spec =
     Inv-loop
     μ-loop
     loop-holds
-    add-area
-    cast-area
+    label-of-requires
     slice-write-area
     add-i
     loop-less
