@@ -45,7 +45,14 @@ pub fn flip(columns: &[u32], k: usize) -> u32
 }
 
 // Every record of the block from its place in memory: record k from the base and the columns that k picks.
-pub fn fill_block(block: &mut [u8], memory: &[u8], columns: &[u32], base: u32, count: usize, r: usize)
+pub fn fill_block(
+    block: &mut [u8],
+    memory: &[u8],
+    columns: &[u32],
+    base: u32,
+    count: usize,
+    r: usize,
+)
     requires { ⌜ (0 < r) × (length (now block) ≡ count * r) ⌝ }
     requires { ⌜ ((k : ℕ) → k < count → placeBy base (now columns) k * r + r ≤ length (now memory)) ⌝ }
     ensures { λ _. ⌜ now (block .exit) ≡ copied every (placeBy base (now (columns .entry))) r (now (memory .entry)) (now (block .entry)) ⌝ }

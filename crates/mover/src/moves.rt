@@ -1,7 +1,6 @@
 // One read, and one write: a block on each drive.
 ghost use mathlib.Core.Path.{_≡_};
-ghost use Prim.Native.Nat.{ℕ, _+_, _*_, _/_, _%_, _≤_, _<_};
-ghost use lib.Dec.{eqb};
+ghost use Prim.Native.Nat.{ℕ, _+_, _*_, _%_, _≤_, _<_};
 ghost use lib.ListN.{length};
 ghost use Rattle.moving.specs.Bytes.{copied, laid};
 ghost use Rattle.moving.specs.Step.{readTakes, readFrom, writeTakes, writeFrom};
@@ -35,14 +34,7 @@ fn read_block(memory: &mut [u8], at: usize, area: &[u8], block: Block, size: usi
 }
 
 // A block for each drive, from the first on: they lie side by side in the area and in memory.
-fn read_drives(
-    memory: &mut [u8],
-    at: usize,
-    area: &[u8],
-    first: Block,
-    size: usize,
-    drives: usize,
-)
+fn read_drives(memory: &mut [u8], at: usize, area: &[u8], first: Block, size: usize, drives: usize)
     requires { ⌜ (at + drives * size ≤ length (now memory)) × (first .0 * size + drives * size ≤ length (now area)) × (0 < size) ⌝ }
     ensures { λ _. ⌜ now (memory .exit) ≡ laid (now (memory .entry)) at (drives * size) (now (area .entry)) (first .0 * size) ⌝ }
 {

@@ -75,14 +75,7 @@ fn turn_number(all: u64, next: Step, asked: Step) -> u8
 }
 
 // The number of a step call.
-fn step_number(
-    plan: Plan,
-    next: Step,
-    asked: Step,
-    area0: usize,
-    area1: usize,
-    memory: usize,
-) -> u8
+fn step_number(plan: Plan, next: Step, asked: Step, area0: usize, area1: usize, memory: usize) -> u8
     ensures { λ r. ⌜ r ≡ readyBy plan (next .0) area0 area1 memory (turnNumber (total (routeOf plan)) (next .0) (asked .0)) ⌝ }
 {
     let ready = ready_number(plan, next, area0, area1, memory);
@@ -93,13 +86,7 @@ fn step_number(
 }
 
 // The move of a step that the plan has.
-fn move_asked(
-    plan: Plan,
-    asked: Step,
-    area0: &mut [u8],
-    area1: &mut [u8],
-    memory: &mut [u8],
-)
+fn move_asked(plan: Plan, asked: Step, area0: &mut [u8], area1: &mut [u8], memory: &mut [u8])
     requires { ⌜ StepsReady plan (asked .0) 1 (buffersOf (now area0) (now area1) (now memory)) ⌝ }
     ensures { λ _. ⌜ buffersOf (now (area0 .exit)) (now (area1 .exit)) (now (memory .exit)) ≡ move (routeOf plan) (asked .0) (buffersOf (now (area0 .entry)) (now (area1 .entry)) (now (memory .entry))) ⌝ }
 {

@@ -18,8 +18,8 @@ use bank::Address;
 use bank::Block;
 use bank::Geometry;
 use bank::ROWS;
-use matrix::questions::inverse_columns;
 use bank::power;
+use matrix::questions::inverse_columns;
 use matrix::rows::apply;
 use matrix::vector::sum;
 use plan::store::pass_rows;
@@ -36,7 +36,13 @@ pub struct Tables {
 }
 
 // What n rows make of the first m columns, in blocks of 2^b; the places after them hold zero.
-fn block_columns(rows: &[u32; ROWS], n: usize, columns: [u32; ROWS], m: usize, b: u32) -> [u32; ROWS]
+fn block_columns(
+    rows: &[u32; ROWS],
+    n: usize,
+    columns: [u32; ROWS],
+    m: usize,
+    b: u32,
+) -> [u32; ROWS]
     requires { ⌜ (n ≤ ROWS) × (m ≤ ROWS) × (b < 32) ⌝ }
     ensures { λ r. ⌜ r ≡ map (λ v. apply (take n (now (rows .entry))) v / 2 ^ b) (take m columns) ++ replicate (ROWS - m) 0 ⌝ }
 {

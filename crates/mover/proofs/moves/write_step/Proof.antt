@@ -97,7 +97,7 @@ write-drives-requires c κs =
     let place = c .before .before .before .before .before .before .before .before .before .before .before .before .before .before .before .before .first-place in
     let first = c .before .before .before .before .before .before .before .before .before .before .before .before .before .before .before .first-block in
     let eg : goes .result .0 ≡ target (passFor (s .args .t) .rows) (s .args .t .complement) (s .args .load * memory g) =
-        goes .ensures ∙ ap (λ (k : ℕ). target (passFor (s .args .t) .rows) (s .args .t .complement) (s .args .load * k)) (c .before .before .before .before .before .before .before .before .before .before .before .before .before .before .before .before .before .before .power .ensures) in
+    goes .ensures ∙ ap (λ (k : ℕ). target (passFor (s .args .t) .rows) (s .args .t .complement) (s .args .load * k)) (c .before .before .before .before .before .before .before .before .before .before .before .before .before .before .before .before .before .before .power .ensures) in
     rw (c .before .before .power2 .ensures, c .before .power3 .ensures) ((size-pos g (s .args .load) (s .args .turn) (s .args .area .now) (s .args .memory .now) (s .pre .within), pow-pos (g .d)), (on-drive (s .args .t) (s .args .load) (s .args .turn) (s .args .area .now) (s .args .memory .now) (s .pre) (goes .result .0) (place .result) (first .result .0) eg (place .ensures) (first .ensures), (in-area (s .args .t) (s .args .load) (s .args .turn) (s .args .area .now) (s .args .memory .now) (s .pre) (goes .result .0) (place .result) (first .result .0) eg (place .ensures) (first .ensures), in-memory (s .args .t) (s .args .load) (s .args .turn) (s .args .area .now) (s .args .memory .now) (s .pre) (goes .result .0) (place .result) (first .result .0) eg (place .ensures) (first .ensures))))
 
 same-length : tie.Need-same-length
@@ -111,7 +111,7 @@ returns c =
     let place = c .before .before .before .before .before .before .before .before .before .before .before .before .before .before .before .before .before .before .before .first-place in
     let first = c .before .before .before .before .before .before .before .before .before .before .before .before .before .before .before .before .before .before .first-block in
     let eg : goes .result .0 ≡ target (passFor (s .args .t) .rows) (s .args .t .complement) (s .args .load * memory g) =
-        goes .ensures ∙ ap (λ (k : ℕ). target (passFor (s .args .t) .rows) (s .args .t .complement) (s .args .load * k)) (c .before .before .before .before .before .before .before .before .before .before .before .before .before .before .before .before .before .before .before .before .before .power .ensures) in
+    goes .ensures ∙ ap (λ (k : ℕ). target (passFor (s .args .t) .rows) (s .args .t .complement) (s .args .load * k)) (c .before .before .before .before .before .before .before .before .before .before .before .before .before .before .before .before .before .before .before .before .before .power .ensures) in
     c .before .before .write-drives .ensures
     ∙ rw (c .before .before .before .before .before .power2 .ensures, c .before .before .before .before .power3 .ensures) (write-is (s .args .t) (s .args .load) (s .args .turn) (s .args .area .now) (s .args .memory .now) (s .pre) (goes .result .0) (place .result) (first .result .0) eg (place .ensures) (first .ensures))
 

@@ -75,11 +75,11 @@ run-pass-requires c κs =
     let turn = c .before .before .before .before .before .before in
     let l = c .before .before .before .before .before .before .before .loop in
     let f : Fits (s .args .plan .geometry) (buffersOf (l .area0) (l .area1) (l .memory)) =
-        record {
-          area0-long = l .inv .1 ∙ s .pre .fitting .area0-long;
-          area1-long = l .inv .2 ∙ s .pre .fitting .area1-long;
-          memory-long = l .inv .3 ∙ s .pre .fitting .memory-long;
-        } in (
+    record {
+      area0-long = l .inv .1 ∙ s .pre .fitting .area0-long;
+      area1-long = l .inv .2 ∙ s .pre .fitting .area1-long;
+      memory-long = l .inv .3 ∙ s .pre .fitting .memory-long;
+    } in (
       rw (c .before .before .before .tables-of .ensures) (plan-moves (s .args .plan) (s .pre .runs) ((s .args .first .0 + l .done) / c .before .before .before .before .before .before .before .before .pass-steps .result) (pass-here turn) (buffersOf (l .area0) (l .area1) (l .memory)) f),
       omega (arith, c .before .before .before .before .least .ensures, s .pre .within, plan-total (s .args .plan) (s .pre .runs), turn .loop-test .taken),
     )

@@ -23,7 +23,7 @@ move-step-requires c κs =
     let s = c .before .before .before .before .before .before .before .before in
     let p = c .before .before .before .before .pass-of in
     let h : p .result < s .args .plan .count =
-        subst (λ (n : ℕ). n < s .args .plan .count) (sym (p .ensures ∙ bare-pass (s .args .plan) (s .args .asked .0))) (pass-in (s .args .plan) (s .pre .runs) (s .args .asked .0) (omega (arith, s .pre .within))) in
+    subst (λ (n : ℕ). n < s .args .plan .count) (sym (p .ensures ∙ bare-pass (s .args .plan) (s .args .asked .0))) (pass-in (s .args .plan) (s .pre .runs) (s .args .asked .0) (omega (arith, s .pre .within))) in
     rw (c .before .before .before .tables-of .ensures) (plan-moves (s .args .plan) (s .pre .runs) (p .result) h (buffersOf (s .args .area0 .now) (s .args .area1 .now) (s .args .memory .now)) (s .pre .fitting))
 
 same-length : tie.Need-same-length
@@ -41,7 +41,7 @@ returns c =
     let p = c .before .before .before .before .before .before .before .before .before .before .before .pass-of in
     let is = p .ensures ∙ bare-pass (s .args .plan) (s .args .asked .0) in
     let h : p .result < s .args .plan .count =
-        subst (λ (n : ℕ). n < s .args .plan .count) (sym is) (pass-in (s .args .plan) (s .pre .runs) (s .args .asked .0) (omega (arith, s .pre .within))) in
+    subst (λ (n : ℕ). n < s .args .plan .count) (sym is) (pass-in (s .args .plan) (s .pre .runs) (s .args .asked .0) (omega (arith, s .pre .within))) in
     c .before .before .before .before .before .before .move-step .ensures
     ∙ ap (λ (t : Tables). moveBy t (s .args .asked .0) (buffersOf (s .args .area0 .now) (s .args .area1 .now) (s .args .memory .now))) (c .before .before .before .before .before .before .before .before .before .before .tables-of .ensures)
     ∙ move-same (s .args .plan) (s .pre .runs) (p .result) h (s .args .asked .0) (buffersOf (s .args .area0 .now) (s .args .area1 .now) (s .args .memory .now)) (sym is)

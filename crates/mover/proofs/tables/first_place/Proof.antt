@@ -1,5 +1,5 @@
 -- `mover::tables::first_place` meets its contract: the sum of the columns that are picked. Assumes nothing.
-use mathlib.Core.Path.{_≡_, subst, sym, _∙_}
+use mathlib.Core.Path.{subst, sym, _∙_}
 use Prim.Native.Nat.{ℕ, _*_, _%_, _<_, _^_}
 use native.Mathlib.Nat.{mod-lt}
 use native.Mathlib.Omega.{arith}
@@ -36,7 +36,7 @@ cast-sum-2 c =
     let s = c .before .before .before .before .before .before .before .before in
     let g = s .args .t .geometry in
     let w : bitXor (s .args .turn * 2 ^ g .d * 2 ^ g .b) (s .args .goes .0 % 2 ^ g .m) < 2 ^ g .m =
-        xor-lt (g .m) (s .args .turn * 2 ^ g .d * 2 ^ g .b) (s .args .goes .0 % 2 ^ g .m) (start-lt g (s .pre .0) (s .args .turn) (s .pre .1)) (mod-lt (s .args .goes .0) (pow-pos (g .m))) in
+    xor-lt (g .m) (s .args .turn * 2 ^ g .d * 2 ^ g .b) (s .args .goes .0 % 2 ^ g .m) (start-lt g (s .pre .0) (s .args .turn) (s .pre .1)) (mod-lt (s .args .goes .0) (pow-pos (g .m))) in
     record { fits = rw (c .before .before .before .before .before .before .power .ensures, c .before .before .before .before .before .power2 .ensures, c .before .before .before .before .power3 .ensures) (omega (arith, w, memory-fit g (s .pre .0), records-fit g (s .pre .0))) }
 
 sum-requires : tie.Need-sum-requires
