@@ -1,26 +1,22 @@
 -- What does the number of a call give, and why is each answer the promised one? Assumes nothing.
 use mathlib.Core.Path.{_≡_, refl, sym, ap, ap₂, _∙_}
 use mathlib.Core.Bool.{Bool, true, false, cond, not, _&&_, _||_}
-use mathlib.Core.List.{List}
 use Prim.Native.Nat.{ℕ, _+_, _-_, _*_, _<_, _≤_, _^_, min}
-use native.Mathlib.Nat.{add-zero}
 use native.Mathlib.Omega.{arith}
-use borrow.Author.Tests.{eq-eqb, lt-ltb, ne-eqb}
-use lib.Dec.{eqb, ltb}
+use borrow.Author.Tests.{lt-ltb, ne-eqb}
 use lib.ListN.{length}
 use Rattle.algebra.proofs.Search.{and-both}
 use Rattle.bank.specs.Checks.{refuse}
 use Rattle.bank.specs.Limits.{PASSES, ROWS}
-use Rattle.moving.proofs.Calls.{Ready, by-step, can→ready, refused-keeps, refused-run, refused-count, run-count, run-next, run-ready, step-done, step-nine, zero-means}
-use Rattle.moving.specs.Call.{Moment, movesFrom, ran, readyNumber, runCount, runNumber, stepNumber, stepped, turnNumber}
-use Rattle.moving.specs.Line.{refuses}
+use Rattle.moving.proofs.Calls.{Ready, by-step, refused-keeps, refused-run, refused-count, run-count, run-ready, step-done, step-nine, zero-means}
+use Rattle.moving.specs.Call.{Moment, movesFrom, ran, readyNumber, runCount, runNumber, stepNumber, turnNumber}
 use Rattle.moving.specs.Step.{Buffers, fits, move}
 use Rattle.plan.proofs.Judging.{total-inside}
 use Rattle.plan.specs.Total.{totalSteps}
-use Rattle.planning.proofs.Running.{can-run→sound, sound-allowed, sound-few, sound→checked, sound→runs}
+use Rattle.planning.proofs.Running.{sound-allowed, sound-few, sound→checked, sound→runs}
 use Rattle.planning.proofs.Stored.{route-length}
 use Rattle.planning.specs.Pass.{total}
-use Rattle.planning.specs.Running.{canRun, countInLimits, sound}
+use Rattle.planning.specs.Running.{countInLimits, sound}
 use Rattle.planning.specs.Stored.{routeOf}
 use Rattle.planning.specs.declared.Plan.{Plan}
 use Rattle.bank.specs.Geometry.{inLimits}
@@ -29,7 +25,6 @@ use Rattle.mover.specs.Moving.{StepsReady}
 use Rattle.mover.specs.Numbers.{readyBy}
 use Rattle.mover.specs.Promise.{RunPromise, StepPromise, caseOf, momentOf, stateAt}
 use Rattle.mover.specs.State.{advancedBy}
-use Rattle.mover.specs.declared.run.Ran.{Ran}
 use Rattle.mover.specs.declared.state.State.{State}
 use Rattle.mover.specs.declared.step.Stepped.the-variants.{Again, Done, Refused}
 

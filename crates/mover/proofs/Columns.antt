@@ -5,7 +5,7 @@ use mathlib.Core.List.{List, [], _∷_, map, _++_, append-nil}
 use Prim.Native.Nat.{ℕ, zero, suc, _+_, _-_, _/_, _≤_, _^_}
 use native.Mathlib.Nat.{add-zero, zero-add, le-of-suc-le-suc, not-suc-le-zero}
 use native.Mathlib.Omega.{arith}
-use lib.ListN.{length, getD, take, drop, length-map, length-drop, replicate, length-append}
+use lib.ListN.{length, take, drop, length-map, length-drop, replicate, length-append}
 use lib.Seq.{drop-append-le, take-append-le, take-at, take-take}
 use Rattle.algebra.proofs.Columns.{columns-length}
 use Rattle.algebra.specs.Matrix.{apply, columns, inverse, singular}

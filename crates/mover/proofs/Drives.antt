@@ -11,7 +11,7 @@ use lib.Arith.{digits-div, digits-mod}
 use lib.Dec.{eqb, ltb}
 use lib.ListN.{length, getD, take, drop}
 use Rattle.moving.proofs.Bytes.{each-each, each-ext, getD-copied, is-each, length-copied, lt-or-ge}
-use Rattle.moving.specs.Bytes.{copied, each, within}
+use Rattle.moving.specs.Bytes.{copied, within}
 use Rattle.mover.proofs.Parts.{back-each, by-run, within-after, within-before, within-in}
 use Rattle.mover.specs.Places.{every, inBlock, onDrives, placeBy, placeIn, placeOn}
 

@@ -1,6 +1,6 @@
 -- What does a block hold after k of its records were filled? Assumes nothing.
 use mathlib.Core.Path.{_≡_, refl, sym, ap, ap₂, _∙_, subst}
-use mathlib.Core.Bool.{Bool, true, cond}
+use mathlib.Core.Bool.{Bool, cond}
 use mathlib.Core.List.{List}
 use Prim.Native.Nat.{ℕ, suc, _+_, _-_, _*_, _/_, _%_, _≤_, _<_}
 use native.Mathlib.Nat.{div-lt-iff-lt-mul, le-div-iff-mul-le, suc-mul, zero-add}
@@ -10,7 +10,7 @@ use lib.Arith.{digits-div, digits-mod}
 use lib.Dec.{ltb}
 use lib.ListN.{length, getD}
 use Rattle.moving.proofs.Bytes.{each-each, each-ext, is-each, length-copied, record-of}
-use Rattle.moving.specs.Bytes.{copied, each, laid, within}
+use Rattle.moving.specs.Bytes.{copied, laid, within}
 use Rattle.mover.proofs.Parts.{by-run, getD-part, length-part, part, within-after, within-before, within-in}
 use Rattle.mover.specs.Places.{every}
 

@@ -14,7 +14,7 @@ use lib.Seq.{drop-cons}
 use Rattle.algebra.proofs.Digits.{xor-assoc}
 use Rattle.algebra.proofs.Linear.{comb-zero}
 use Rattle.algebra.proofs.Loops.{times-nil, times-not}
-use Rattle.algebra.specs.Vector.{comb, times}
+use Rattle.algebra.specs.Vector.{comb}
 use Rattle.mover.specs.Places.{flips, placeBy}
 
 flips-even : (c : ℕ) (cs : List ℕ) (x : ℕ) → x % 2 ≡ 0 → flips (c ∷ cs) x ≡ c

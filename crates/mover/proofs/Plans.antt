@@ -1,7 +1,7 @@
 -- Why are the moves by a pass's tables the moves of the plan? Assumes nothing.
 use mathlib.Core.Path.{_≡_, refl, sym, ap, ap₂, subst, _∙_}
 use mathlib.Core.List.{List}
-use Prim.Native.Nat.{ℕ, zero, suc, _+_, _-_, _*_, _/_, _%_, _≤_, _<_, _^_}
+use Prim.Native.Nat.{ℕ, zero, suc, _+_, _*_, _/_, _%_, _≤_, _<_, _^_}
 use native.Mathlib.Nat.{div-add-mod'}
 use native.Mathlib.Numerals.{add-one}
 use native.Mathlib.Omega.{arith}
@@ -26,7 +26,7 @@ use Rattle.planning.specs.Stored.{routeOf, storedPass}
 use Rattle.planning.specs.declared.Plan.{Plan}
 use Rattle.mover.proofs.Columns.{tables-prepared}
 use Rattle.mover.specs.Moving.{MoveReady, moveBy, movesBy, tablesOf}
-use Rattle.mover.specs.Tables.{Prepared, TablesReady, passFor, passWith, tablesFor}
+use Rattle.mover.specs.Tables.{Prepared, TablesReady, passWith, tablesFor}
 use Rattle.mover.specs.Turns.{bare}
 use Rattle.mover.specs.declared.tables.Tables.{Tables}
 

@@ -1,6 +1,6 @@
 -- Which numbers of a bank inside the limits fit a machine word? Assumes nothing.
-use mathlib.Core.Path.{_≡_, sym, ap, subst, _∙_}
-use Prim.Native.Nat.{ℕ, _+_, _-_, _*_, _<_, _≤_, _^_}
+use mathlib.Core.Path.{_≡_, ap, subst}
+use Prim.Native.Nat.{ℕ, _*_, _<_, _≤_, _^_}
 use native.Mathlib.Nat.{add-zero, div-le-self, mul-le-mul-left}
 use native.Mathlib.Omega.{arith}
 use lib.Pow.{pow-mono, pow-pos}

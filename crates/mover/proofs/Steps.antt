@@ -1,5 +1,5 @@
 -- Why is what the code of a read and of a write leaves what their definitions say? Assumes nothing.
-use mathlib.Core.Path.{_≡_, refl, sym, ap, ap₂, _∙_, subst}
+use mathlib.Core.Path.{_≡_, refl, sym, ap, ap₂, _∙_}
 use mathlib.Core.Bool.{cond}
 use mathlib.Core.List.{List}
 use Prim.Native.Nat.{ℕ, _+_, _-_, _*_, _/_, _%_, _^_, _≤_, _<_}
@@ -13,7 +13,6 @@ use lib.ListN.{length, getD, take, drop}
 use Rattle.algebra.specs.Matrix.{apply, columns, target}
 use Rattle.algebra.specs.Vector.{comb}
 use Rattle.bank.specs.Geometry.{block, drives, memory, records, stripes}
-use Rattle.bank.specs.Limits.{BYTES}
 use Rattle.bank.specs.declared.Geometry.{Geometry}
 use Rattle.moving.proofs.Bridge.{block-base, code-block, code-drive, code-place, codeBlock, codePlace, place-base, read-laid, stripeBytes, write-as-code}
 use Rattle.moving.proofs.Bytes.{each-ext}

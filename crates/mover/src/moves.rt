@@ -1,7 +1,6 @@
 // One read, and one write: a block on each drive.
 ghost use mathlib.Core.Path.{_≡_};
-ghost use Prim.Native.Nat.{ℕ, _+_, _*_, _/_, _%_, _≤_, _<_};
-ghost use lib.Dec.{eqb};
+ghost use Prim.Native.Nat.{ℕ, _+_, _*_, _%_, _≤_, _<_};
 ghost use lib.ListN.{length};
 ghost use Rattle.moving.specs.Bytes.{copied, laid};
 ghost use Rattle.moving.specs.Step.{readTakes, readFrom, writeTakes, writeFrom};

@@ -3,7 +3,6 @@ use mathlib.Core.Path.{_≡_, ap, sym, subst, _∙_}
 use Prim.Native.Nat.{ℕ, _+_, _-_, _*_, _^_, _≤_, _<_, zero-le}
 use native.Mathlib.Omega.{arith}
 use native.Mathlib.Nat.{zero-mul, suc-mul}
-use borrow.Author.Needs.{needs}
 use lib.Bits.{bitXor, xor-lt}
 use lib.ListN.{length, length-take, length-drop}
 use Rattle.mover.proofs.Filled.{filled, filled-all, filled-none, filled-turn, length-filled}

@@ -1,7 +1,7 @@
 -- `mover::moves::read_step` meets its contract: a stripe lies side by side in the area and in memory. Assumes nothing.
-use mathlib.Core.Path.{_≡_, _∙_}
+use mathlib.Core.Path.{_∙_}
 use native.Mathlib.Omega.{arith}
-use Rattle.mover.proofs.Sizes.{start-fits, stripe-fits}
+use Rattle.mover.proofs.Sizes.{stripe-fits}
 use Rattle.mover.proofs.Steps.{first-fits, read-area, read-is, read-memory, size-fits, size-pos}
 use borrow.Author.Needs.{needs}
 use Rattle.mover.proofs.moves.read_step.Statement.{statement}

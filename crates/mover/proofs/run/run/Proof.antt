@@ -1,12 +1,12 @@
--- `mover::run::run` meets its contract: refused it does nothing, else the steps that are allowed and left. Assumes nothing.
+-- `mover::run::run` meets its contract: the checks once, then the steps that are allowed and left. Assumes nothing.
 use mathlib.Core.Path.{_≡_, ap, sym, _∙_}
-use Prim.Native.Nat.{ℕ, _*_, _-_, min}
+use Prim.Native.Nat.{ℕ, _-_, _*_, min}
 use native.Mathlib.Omega.{arith}
-use borrow.Author.Needs.{needs}
 use lib.ListN.{length}
 use Rattle.bank.specs.Limits.{PASSES, ROWS}
 use Rattle.mover.proofs.Asked.{run-done, run-number, run-refused, run-steps-ready, run-total}
 use Rattle.mover.specs.Promise.{buffersOf}
+use borrow.Author.Needs.{needs}
 use Rattle.mover.proofs.run.run.Statement.{statement}
 use Rattle.mover.proofs.run.run.Tie as tie
 
@@ -22,8 +22,9 @@ kept-requires c κs = search needs
 returns : tie.Need-returns
 returns c =
     let s = c .before .before .before .before .before .before .before in
-    let is = c .before .before .ready-number .ensures ∙ run-number (s .args .plan) (s .args .state) (s .args .allowance) (buffersOf (s .args .area0 .now) (s .args .area1 .now) (s .args .memory .now)) in
-    run-refused (s .args .plan) (s .args .state) (s .args .allowance) (buffersOf (s .args .area0 .now) (s .args .area1 .now) (s .args .memory .now)) (c .before .before .ready-number .result) (c .kept .result) is (λ e. c .before .if1 .taken (is ∙ e)) (c .kept .ensures)
+    let k = c .before .before .ready-number in
+    let is = k .ensures ∙ run-number (s .args .plan) (s .args .state) (s .args .allowance) (buffersOf (s .args .area0 .now) (s .args .area1 .now) (s .args .memory .now)) in
+    run-refused (s .args .plan) (s .args .state) (s .args .allowance) (buffersOf (s .args .area0 .now) (s .args .area1 .now) (s .args .memory .now)) (k .result) (c .kept .result) is (λ e. c .before .if1 .taken (is ∙ e)) (c .kept .ensures)
 
 total-steps-requires : tie.Need-total-steps-requires
 total-steps-requires c κs = search needs
@@ -31,8 +32,8 @@ total-steps-requires c κs = search needs
 sub-least : tie.Need-sub-least
 sub-least c =
     let s = c .before .before .before .before .before .before .before .before in
-    let t = run-total (s .args .plan) (s .args .state) (s .args .allowance) (buffersOf (s .args .area0 .now) (s .args .area1 .now) (s .args .memory .now)) (sym (run-number (s .args .plan) (s .args .state) (s .args .allowance) (buffersOf (s .args .area0 .now) (s .args .area1 .now) (s .args .memory .now))) ∙ sym (c .before .before .before .ready-number .ensures) ∙ c .before .before .if1 .left) in
-    omega (arith, t .0, t .1, c .before .total-steps .ensures)
+    let z = sym (c .before .before .before .ready-number .ensures ∙ run-number (s .args .plan) (s .args .state) (s .args .allowance) (buffersOf (s .args .area0 .now) (s .args .area1 .now) (s .args .memory .now))) ∙ c .before .before .if1 .left in
+    omega (arith, c .before .total-steps .ensures, run-total (s .args .plan) (s .args .state) (s .args .allowance) (buffersOf (s .args .area0 .now) (s .args .area1 .now) (s .args .memory .now)) z)
 
 least-requires : tie.Need-least-requires
 least-requires c κs = search needs
@@ -40,9 +41,9 @@ least-requires c κs = search needs
 run-steps-requires : tie.Need-run-steps-requires
 run-steps-requires c κs =
     let s = c .before .before .before .before .before .before .before .before .before .before .before .before in
-    let none = (sym (run-number (s .args .plan) (s .args .state) (s .args .allowance) (buffersOf (s .args .area0 .now) (s .args .area1 .now) (s .args .memory .now))) ∙ sym (c .before .before .before .before .before .before .before .ready-number .ensures) ∙ c .before .before .before .before .before .before .if1 .left) in
-    run-steps-ready (s .args .plan) (s .args .state) (s .args .allowance) (buffersOf (s .args .area0 .now) (s .args .area1 .now) (s .args .memory .now)) (rows-long s) none (c .before .before .before .least .result)
-    (c .before .before .before .least .ensures ∙ ap (λ (k : ℕ). min (s .args .allowance) (k - s .args .state .next .0)) (c .before .before .before .before .before .total-steps .ensures ∙ run-total (s .args .plan) (s .args .state) (s .args .allowance) (buffersOf (s .args .area0 .now) (s .args .area1 .now) (s .args .memory .now)) none .0))
+    let z = sym (c .before .before .before .before .before .before .before .ready-number .ensures ∙ run-number (s .args .plan) (s .args .state) (s .args .allowance) (buffersOf (s .args .area0 .now) (s .args .area1 .now) (s .args .memory .now))) ∙ c .before .before .before .before .before .before .if1 .left in
+    let t = run-total (s .args .plan) (s .args .state) (s .args .allowance) (buffersOf (s .args .area0 .now) (s .args .area1 .now) (s .args .memory .now)) z in
+    run-steps-ready (s .args .plan) (s .args .state) (s .args .allowance) (buffersOf (s .args .area0 .now) (s .args .area1 .now) (s .args .memory .now)) (rows-long s) z (c .before .before .before .least .result) (c .before .before .before .least .ensures ∙ ap (λ (n : ℕ). min (s .args .allowance) (n - s .args .state .next .0)) (c .before .before .before .before .before .total-steps .ensures ∙ t .0))
 
 advanced-requires : tie.Need-advanced-requires
 advanced-requires c κs = search needs
@@ -59,12 +60,13 @@ same-length-3 c = search needs
 returns-2 : tie.Need-returns-2
 returns-2 c =
     let s = c .before .before .before .before .before .before .before .before .before .before .before .before .before .before .before .before .before .before .before .before in
-    let none = (sym (run-number (s .args .plan) (s .args .state) (s .args .allowance) (buffersOf (s .args .area0 .now) (s .args .area1 .now) (s .args .memory .now))) ∙ sym (c .before .before .before .before .before .before .before .before .before .before .before .before .before .before .before .ready-number .ensures) ∙ c .before .before .before .before .before .before .before .before .before .before .before .before .before .before .if1 .left) in
+    let k = c .before .before .before .before .before .before .before .before .before .before .before .before .before .before .before .ready-number in
+    let is = k .ensures ∙ run-number (s .args .plan) (s .args .state) (s .args .allowance) (buffersOf (s .args .area0 .now) (s .args .area1 .now) (s .args .memory .now)) in
+    let z = sym is ∙ c .before .before .before .before .before .before .before .before .before .before .before .before .before .before .if1 .left in
+    let n = c .before .before .before .before .before .before .before .before .before .before .before .least in
     let w = c .before .before .before .before .before .before .before .run-steps in
-    run-done (s .args .plan) (s .args .state) (s .args .allowance) (buffersOf (s .args .area0 .now) (s .args .area1 .now) (s .args .memory .now)) (c .before .before .before .before .before .before .before .before .before .before .before .before .before .before .before .ready-number .result) (c .before .before .before .before .before .before .before .before .before .before .before .least .result) (c .advanced .result) (buffersOf (w .last .1 .1 .1 .0) (w .last .1 .1 .1 .1 .0) (w .last .1 .1 .1 .1 .1 .0))
-    (c .before .before .before .before .before .before .before .before .before .before .before .before .before .before .before .ready-number .ensures ∙ run-number (s .args .plan) (s .args .state) (s .args .allowance) (buffersOf (s .args .area0 .now) (s .args .area1 .now) (s .args .memory .now))) none
-    (c .before .before .before .before .before .before .before .before .before .before .before .least .ensures ∙ ap (λ (k : ℕ). min (s .args .allowance) (k - s .args .state .next .0)) (c .before .before .before .before .before .before .before .before .before .before .before .before .before .total-steps .ensures ∙ run-total (s .args .plan) (s .args .state) (s .args .allowance) (buffersOf (s .args .area0 .now) (s .args .area1 .now) (s .args .memory .now)) none .0))
-    (c .advanced .ensures) (w .ensures)
+    run-done (s .args .plan) (s .args .state) (s .args .allowance) (buffersOf (s .args .area0 .now) (s .args .area1 .now) (s .args .memory .now)) (k .result) (n .result) (c .advanced .result) (buffersOf (w .last .1 .1 .1 .0) (w .last .1 .1 .1 .1 .0) (w .last .1 .1 .1 .1 .1 .0)) is z
+    (n .ensures ∙ ap (λ (n : ℕ). min (s .args .allowance) (n - s .args .state .next .0)) (c .before .before .before .before .before .before .before .before .before .before .before .before .before .total-steps .ensures ∙ run-total (s .args .plan) (s .args .state) (s .args .allowance) (buffersOf (s .args .area0 .now) (s .args .area1 .now) (s .args .memory .now)) z .0)) (c .advanced .ensures) (w .ensures)
 
 pub run-spec : {M : Type 1} → statement M
 run-spec =

@@ -1,7 +1,6 @@
 -- `mover::step::step` meets its contract: the number first, then a way for each. Assumes nothing.
 use mathlib.Core.Path.{_≡_, sym, _∙_}
 use Prim.Native.Nat.{_*_}
-use native.Mathlib.Omega.{arith}
 use lib.ListN.{length}
 use Rattle.bank.specs.Limits.{PASSES, ROWS}
 use Rattle.mover.proofs.Asked.{again-promise, again-ready, done-promise, done-ready, number-is, refused-promise}
