@@ -1,13 +1,12 @@
 -- Which lines has a listing, part by part? Assumes nothing.
 use mathlib.Core.Path.{_≡_, refl, sym, ap, ap₂, _∙_}
-use mathlib.Core.Bool.{true, false, cond}
+use mathlib.Core.Bool.{true, false}
 use mathlib.Core.List.{List, [], _∷_, _++_, append-assoc, append-nil}
-use Prim.Native.Nat.{ℕ, zero, suc, _+_, _-_, _*_, _^_, _<_, _≤_}
+use Prim.Native.Nat.{ℕ, zero, suc, _+_, _*_, _^_, _<_, _≤_}
 use native.Mathlib.Omega.{arith}
 use native.Mathlib.Nat.{suc-mul, mul-le-mul}
 use native.Mathlib.Numerals.{add-one}
 use borrow.Author.Tests.{le-leb, lt-leb}
-use lib.Dec.{leb}
 use lib.ListN.{length, getD, take, drop, length-append, length-drop, take-append-drop}
 use lib.Seq.{length-take-le, take-suc, take-all, take-take}
 use Rattle.bank.specs.Limits.{ROWS, PASSES}
@@ -50,7 +49,7 @@ length-pass n p pass h =
       length-append (rowLines n (pass .rows)) (line (bits n (pass .complement))),
       length-row-lines n (pass .rows) ∙ ap (λ (k : ℕ). k * (n + 1)) h,
       length-line n (pass .complement),
-      suc-mul n (n + 1) ,
+      suc-mul n (n + 1),
       ap (λ (k : ℕ). k * (n + 1)) (add-one n),
     )
 
@@ -135,8 +134,8 @@ module _ (plan : Plan) where
         ap length pass-parts
         ∙ length-append (line (passWord ++ decimal p)) (rowLines (plan .geometry .n) (take (plan .geometry .n) part) ++ line (bits (plan .geometry .n) (getD (plan .complements) p 0)))
         ∙ ap (λ (k : ℕ). length (line (passWord ++ decimal p)) + k)
-            (length-append (rowLines (plan .geometry .n) (take (plan .geometry .n) part)) (line (bits (plan .geometry .n) (getD (plan .complements) p 0)))
-            ∙ ap (λ (k : ℕ). length (rowLines (plan .geometry .n) (take (plan .geometry .n) part)) + k) (length-line (plan .geometry .n) (getD (plan .complements) p 0)))
+        (length-append (rowLines (plan .geometry .n) (take (plan .geometry .n) part)) (line (bits (plan .geometry .n) (getD (plan .complements) p 0)))
+        ∙ ap (λ (k : ℕ). length (rowLines (plan .geometry .n) (take (plan .geometry .n) part)) + k) (length-line (plan .geometry .n) (getD (plan .complements) p 0)))
 
 -- ---- the listing
 pub sound-total : (plan : Plan) → sound plan ≡ true → totalSteps plan ≡ total (routeOf plan)

@@ -1,11 +1,11 @@
 -- What is a room after several texts were written, one after the other? Assumes nothing.
 use mathlib.Core.Path.{_≡_, refl, sym, ap, _∙_}
-use mathlib.Core.List.{List, [], _∷_, _++_, append-assoc, append-nil}
+use mathlib.Core.List.{List, [], _∷_, _++_, append-assoc}
 use Prim.Native.Nat.{ℕ, suc, _+_, _≤_, _<_}
 use native.Mathlib.Omega.{arith}
 use native.Mathlib.Numerals.{add-one}
 use lib.ListN.{length, set, take, drop, length-append, length-drop, take-append-drop}
-use lib.Seq.{length-take-le, take-at, drop-at, drop-drop, drop-append-le, set-append-left, set-split, take-set-lt, take-suc-set, append-snoc}
+use lib.Seq.{length-take-le, take-at, drop-at, drop-drop, set-append-left, set-split, take-set-lt, take-suc-set, append-snoc}
 use Rattle.text.specs.Lines.{line}
 use Rattle.text.specs.Written.{put, Wrote}
 
@@ -32,8 +32,8 @@ module _ (room : List ℕ) (at : ℕ) (t : List ℕ) (fits : at + length t ≤ l
       let front : take (at + length t) (put room at t) ≡ take at room ++ t = ap (take (at + length t)) grouped ∙ take-at (take at room ++ t) _ (at + length t) long in
       let back : drop (at + length t) (put room at t) ≡ drop (at + length t) room = ap (drop (at + length t)) grouped ∙ drop-at (take at room ++ t) _ (at + length t) long in
       let beyond : drop (at + length t + length u) (put room at t) ≡ drop (at + length (t ++ u)) room =
-          sym (drop-drop (length u) (at + length t) (put room at t)) ∙ ap (drop (length u)) back ∙ drop-drop (length u) (at + length t) room
-          ∙ ap (λ (k : ℕ). drop k room) longer
+      sym (drop-drop (length u) (at + length t) (put room at t)) ∙ ap (drop (length u)) back ∙ drop-drop (length u) (at + length t) room
+      ∙ ap (λ (k : ℕ). drop k room) longer
       in
       rw (front, beyond) (append-assoc (take at room) t (u ++ drop (at + length (t ++ u)) room) ∙ ap (λ (l : List ℕ). take at room ++ l) (sym (append-assoc t u (drop (at + length (t ++ u)) room))))
 
@@ -47,7 +47,7 @@ pub put-before : (room : List ℕ) (at x : ℕ) (t : List ℕ) → at + 1 + leng
 unfolding put
 put-before room at x t fits =
     let front : set (take (at + 1) room) at x ≡ take at room ++ (x ∷ []) =
-        rw (add-one at) (sym (take-set-lt (suc at) room at x (omega arith)) ∙ take-suc-set room at x (omega arith))
+    rw (add-one at) (sym (take-set-lt (suc at) room at x (omega arith)) ∙ take-suc-set room at x (omega arith))
     in
     let beyond : at + 1 + length t ≡ at + suc (length t) = omega arith in
     set-append-left (take (at + 1) room) (t ++ drop (at + 1 + length t) room) at x (omega (arith, length-take-le (at + 1) room (omega arith)))

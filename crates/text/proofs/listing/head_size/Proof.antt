@@ -1,11 +1,9 @@
 -- `text::listing::head_size` meets its contract: a number has at most 20 digits, and each line its word and its end. Assumes nothing.
-use mathlib.Core.Path.{_≡_, refl, sym, ap, _∙_, subst}
-use mathlib.Core.List.{List, [], _∷_, _++_}
-use Prim.Native.Nat.{ℕ, _+_, _-_, _*_, _/_, _%_, _^_, _<_, _≤_}
+use mathlib.Core.Path.{ap, _∙_}
+use Prim.Native.Nat.{ℕ}
 use native.Mathlib.Omega.{arith}
-use native.Mathlib.Numerals.{add-one}
 use borrow.Author.Needs.{needs}
-use lib.ListN.{length, getD, set, take, length-set}
+use lib.ListN.{length}
 use Rattle.text.specs.Lines.{decimal}
 use Rattle.text.proofs.Decimal.{decimal-length}
 use Rattle.text.proofs.Passes.{length-head, sound-total}
@@ -34,7 +32,7 @@ decimal-size-requires-3 : tie.Need-decimal-size-requires-3
 decimal-size-requires-3 c κs = search needs
 
 add-result : tie.Need-add-result
-add-result c = 
+add-result c =
     omega (
       arith,
       c .decimal-size3 .ensures,
@@ -46,7 +44,7 @@ add-result c =
     )
 
 add-result-2 : tie.Need-add-result-2
-add-result-2 c = 
+add-result-2 c =
     omega (
       arith,
       c .decimal-size3 .ensures,
@@ -58,7 +56,7 @@ add-result-2 c =
     )
 
 add-result-3 : tie.Need-add-result-3
-add-result-3 c = 
+add-result-3 c =
     omega (
       arith,
       c .decimal-size3 .ensures,
@@ -70,7 +68,7 @@ add-result-3 c =
     )
 
 add-result-4 : tie.Need-add-result-4
-add-result-4 c = 
+add-result-4 c =
     omega (
       arith,
       c .decimal-size3 .ensures,
@@ -82,7 +80,7 @@ add-result-4 c =
     )
 
 add-result-5 : tie.Need-add-result-5
-add-result-5 c = 
+add-result-5 c =
     omega (
       arith,
       c .decimal-size3 .ensures,
@@ -94,7 +92,7 @@ add-result-5 c =
     )
 
 returns : tie.Need-returns
-returns c = 
+returns c =
     let plan = c .before .before .before .before .before .before .before .args .plan in
     omega (
       arith,

@@ -1,11 +1,8 @@
 -- `text::listing::listing_size` meets its contract: the lengths of the two parts, or none. Assumes nothing.
-use mathlib.Core.Path.{_≡_, refl, sym, ap, _∙_, subst}
-use mathlib.Core.List.{List, [], _∷_, _++_}
-use Prim.Native.Nat.{ℕ, _+_, _-_, _*_, _/_, _%_, _^_, _<_, _≤_}
+use mathlib.Core.Path.{sym, ap, _∙_}
 use native.Mathlib.Omega.{arith}
-use native.Mathlib.Numerals.{add-one}
 use borrow.Author.Needs.{needs}
-use lib.ListN.{length, getD, set, take, length-append}
+use lib.ListN.{length, length-append}
 use borrow.Author.Tests.{not-true, not-false}
 use Rattle.text.specs.Written.{headLines, tailLines}
 use Rattle.text.proofs.Passes.{listing-none, listing-small, listing-parts}
@@ -31,7 +28,7 @@ add-result c =
     omega (arith, listing-small plan sound (search needs), c .before .head-size .ensures, c .tail-size .ensures)
 
 returns-2 : tie.Need-returns-2
-returns-2 c = 
+returns-2 c =
     let plan = c .before .before .before .before .args .plan in
     let sound = sym (c .before .before .before .is-sound .ensures) ∙ not-false (c .before .before .before .is-sound .result) (c .before .before .if1 .left) in
     omega (arith, ap length (listing-parts plan sound) ∙ length-append (headLines plan) (tailLines plan), c .before .head-size .ensures, c .tail-size .ensures)

@@ -1,12 +1,10 @@
 -- `text::listing::put_pass` meets its contract: its number, its rows and its complement, one after the other. Assumes nothing.
-use mathlib.Core.Path.{_≡_, refl, sym, ap, _∙_, subst}
-use mathlib.Core.List.{List, [], _∷_, _++_}
-use Prim.Native.Nat.{ℕ, _+_, _-_, _*_, _/_, _%_, _^_, _<_, _≤_}
+use mathlib.Core.List.{_++_}
+use Prim.Native.Nat.{_+_, _≤_}
 use native.Mathlib.Omega.{arith}
-use native.Mathlib.Numerals.{add-one}
 use borrow.Author.Needs.{needs}
-use lib.ListN.{length, getD, set, take, length-append}
-use Rattle.bank.specs.Limits.{ROWS, PASSES}
+use lib.ListN.{length, getD, take, length-append}
+use Rattle.bank.specs.Limits.{ROWS}
 use Rattle.text.specs.Lines.{line, decimal, bits, rowLines}
 use Rattle.text.specs.Listing.{passWord}
 use Rattle.text.proofs.Put.{wrote-three, wrote-more, wrote-fits}
@@ -30,7 +28,7 @@ slice-aggregate-put-line : tie.Need-slice-aggregate-put-line
 slice-aggregate-put-line c = search needs
 
 put-line-requires : tie.Need-put-line-requires
-put-line-requires c κs = 
+put-line-requires c κs =
     let a = c .before .before .before .before .before .before .before .before .args in
     let n = a .plan .geometry .n in
     let part = c .before .before .before .pass-rows in
@@ -41,7 +39,7 @@ put-line-requires c κs =
     omega arith
 
 put-rows-requires : tie.Need-put-rows-requires
-put-rows-requires c κs = 
+put-rows-requires c κs =
     let a = c .before .before .before .before .before .before .before .before .before .before .before .before .before .args in
     let n = a .plan .geometry .n in
     let part = c .before .before .before .before .before .before .before .before .pass-rows in
@@ -52,7 +50,7 @@ put-rows-requires c κs =
     (fits, wrote-fits (a .room .now) (a .at) (line (passWord ++ decimal (a .p))) _ _ (c .before .before .before .before .put-line .ensures) (length rows) (omega arith))
 
 put-row-requires : tie.Need-put-row-requires
-put-row-requires c κs = 
+put-row-requires c κs =
     let a = c .before .before .before .before .before .before .before .before .before .before .before .before .before .before .before .before .before .args in
     let n = a .plan .geometry .n in
     let part = c .before .before .before .before .before .before .before .before .before .before .before .before .pass-rows in
@@ -67,7 +65,7 @@ same-length : tie.Need-same-length
 same-length c = search needs
 
 returns : tie.Need-returns
-returns c = 
+returns c =
     let a = c .before .before .before .before .before .before .before .before .before .before .before .before .before .before .before .before .before .before .before .before .args in
     let n = a .plan .geometry .n in
     let part = c .before .before .before .before .before .before .before .before .before .before .before .before .before .before .before .pass-rows in

@@ -1,13 +1,12 @@
 -- `text::listing::put_tail` meets its contract: after p turns the first p passes stand there. Assumes nothing.
-use mathlib.Core.Path.{_≡_, refl, sym, ap, _∙_, subst}
-use mathlib.Core.List.{List, [], _∷_, _++_}
-use Prim.Native.Nat.{ℕ, _+_, _-_, _*_, _/_, _%_, _^_, _<_, _≤_}
+use mathlib.Core.Path.{_≡_, refl, ap, _∙_}
+use mathlib.Core.List.{_++_}
+use Prim.Native.Nat.{_+_, _-_, _≤_}
 use native.Mathlib.Omega.{arith}
-use native.Mathlib.Numerals.{add-one}
 use borrow.Author.Needs.{needs}
-use lib.ListN.{length, getD, set, take, length-append}
+use lib.ListN.{length, length-append}
 use Rattle.planning.proofs.Running.{sound-allowed, sound-few}
-use Rattle.text.specs.Written.{Wrote, passAtLines, tailLines}
+use Rattle.text.specs.Written.{Wrote, passAtLines}
 use Rattle.text.proofs.Put.{wrote-none, wrote-more, wrote-length, wrote-fits}
 use Rattle.text.proofs.Passes.{upTo, up-to-none, up-to-more, up-to-short, up-to-all}
 use Rattle.text.proofs.listing.put_tail.Statement.{statement}
@@ -23,12 +22,12 @@ cast-count : tie.Need-cast-count Inv-loop μ-loop
 cast-count c = search needs
 
 loop-holds : tie.Need-loop-holds Inv-loop μ-loop
-loop-holds c = 
+loop-holds c =
     let a = c .before .before .args in
     (omega arith, refl, rw (up-to-none (a .plan)) (wrote-none (a .room .now) (a .at)))
 
 put-pass-requires : tie.Need-put-pass-requires Inv-loop μ-loop
-put-pass-requires c κs = 
+put-pass-requires c κs =
     let a = c .before .before .before .before .before .args in
     let l = c .before .before .loop in
     let more = up-to-more (a .plan) (l .p) (omega arith) in
@@ -47,7 +46,7 @@ loop-less : tie.Need-loop-less Inv-loop μ-loop
 loop-less c = omega arith
 
 loop-again : tie.Need-loop-again Inv-loop μ-loop
-loop-again c = 
+loop-again c =
     let a = c .before .before .before .before .before .before .before .before .args in
     let l = c .before .before .before .before .before .loop in
     let more = up-to-more (a .plan) (l .p) (omega arith) in
@@ -64,7 +63,7 @@ same-length : tie.Need-same-length Inv-loop μ-loop
 same-length c = c .before .loop .inv .1
 
 returns : tie.Need-returns Inv-loop μ-loop
-returns c = 
+returns c =
     let l = c .before .loop in
     let plan = c .before .before .before .before .args .plan in
     rw (up-to-all plan (l .p) (omega arith)) at (l .inv .2)

@@ -1,14 +1,10 @@
 -- `text::listing::tail_size` meets its contract: after p turns the size is that of p passes. Assumes nothing.
-use mathlib.Core.Path.{_≡_, refl, sym, ap, _∙_, subst}
-use mathlib.Core.List.{List, [], _∷_, _++_}
-use Prim.Native.Nat.{ℕ, _+_, _-_, _*_, _/_, _%_, _^_, _<_, _≤_}
+use mathlib.Core.Path.{_≡_, refl, sym, ap, _∙_}
+use Prim.Native.Nat.{_+_, _-_, _*_, _≤_}
 use native.Mathlib.Omega.{arith}
-use native.Mathlib.Numerals.{add-one}
 use borrow.Author.Needs.{needs}
-use lib.ListN.{length, getD, set, take, length-set}
 use Rattle.bank.specs.Limits.{ROWS, PASSES}
 use Rattle.planning.proofs.Running.{sound-allowed, sound-few}
-use Rattle.text.specs.Lines.{decimal}
 use Rattle.text.proofs.Decimal.{decimal-length}
 use Rattle.text.proofs.Passes.{passesSize, passes-size-more, square-small, tail-length}
 use Rattle.text.proofs.listing.tail_size.Statement.{statement}
@@ -28,7 +24,7 @@ cast-count c = search needs
 
 loop-holds : tie.Need-loop-holds Inv-loop μ-loop
 unfolding passesSize
-loop-holds c = 
+loop-holds c =
     let plan = c .before .before .args .plan in
     (omega arith, sound-few plan (c .before .before .pre), sound-allowed plan (c .before .before .pre) .n-high, omega arith, refl)
 
@@ -36,32 +32,32 @@ decimal-size-requires : tie.Need-decimal-size-requires Inv-loop μ-loop
 decimal-size-requires c κs = search needs
 
 add-size : tie.Need-add-size Inv-loop μ-loop
-add-size c = 
+add-size c =
     let l = c .before .before .loop in
     omega (arith, c .decimal-size .ensures, decimal-length (l .p), square-small (c .before .before .before .before .before .args .plan .geometry .n) (l .inv .2))
 
 add-size-2 : tie.Need-add-size-2 Inv-loop μ-loop
-add-size-2 c = 
+add-size-2 c =
     let l = c .before .before .loop in
     omega (arith, c .decimal-size .ensures, decimal-length (l .p), square-small (c .before .before .before .before .before .args .plan .geometry .n) (l .inv .2))
 
 add-size-3 : tie.Need-add-size-3 Inv-loop μ-loop
-add-size-3 c = 
+add-size-3 c =
     let l = c .before .before .loop in
     omega (arith, c .decimal-size .ensures, decimal-length (l .p), square-small (c .before .before .before .before .before .args .plan .geometry .n) (l .inv .2))
 
 mul-size : tie.Need-mul-size Inv-loop μ-loop
-mul-size c = 
+mul-size c =
     let l = c .before .before .loop in
     omega (arith, square-small (c .before .before .before .before .before .args .plan .geometry .n) (l .inv .2))
 
 add-size-4 : tie.Need-add-size-4 Inv-loop μ-loop
-add-size-4 c = 
+add-size-4 c =
     let l = c .before .before .loop in
     omega (arith, c .decimal-size .ensures, decimal-length (l .p), square-small (c .before .before .before .before .before .args .plan .geometry .n) (l .inv .2))
 
 add-size-5 : tie.Need-add-size-5 Inv-loop μ-loop
-add-size-5 c = 
+add-size-5 c =
     let l = c .before .before .loop in
     omega (arith, c .decimal-size .ensures, decimal-length (l .p), square-small (c .before .before .before .before .before .args .plan .geometry .n) (l .inv .2))
 
@@ -72,7 +68,7 @@ loop-less : tie.Need-loop-less Inv-loop μ-loop
 loop-less c = omega arith
 
 loop-again : tie.Need-loop-again Inv-loop μ-loop
-loop-again c = 
+loop-again c =
     let l = c .before .before .loop in
     let n = c .before .before .before .before .before .args .plan .geometry .n in
     let small = square-small n (l .inv .2) in (
@@ -84,7 +80,7 @@ loop-again c =
     )
 
 returns : tie.Need-returns Inv-loop μ-loop
-returns c = 
+returns c =
     let l = c .before .loop in
     let plan = c .before .before .before .before .args .plan in
     let e : l .p ≡ plan .count = omega arith in

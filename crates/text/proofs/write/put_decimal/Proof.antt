@@ -1,12 +1,9 @@
 -- `text::write::put_decimal` meets its contract: what is left of the number and what is written are its digits. Assumes nothing.
-use mathlib.Core.Path.{_≡_, refl, sym, ap, _∙_, subst}
-use mathlib.Core.List.{List, [], _∷_, _++_}
-use Prim.Native.Nat.{ℕ, _+_, _-_, _*_, _/_, _%_, _^_, _<_, _≤_}
+use mathlib.Core.Path.{ap}
+use Prim.Native.Nat.{ℕ, _+_}
 use native.Mathlib.Omega.{arith}
-use native.Mathlib.Numerals.{add-one}
 use borrow.Author.Needs.{needs}
-use lib.ListN.{length, getD, set, take, length-set}
-use Rattle.text.specs.Lines.{decimal}
+use lib.ListN.{length-set}
 use Rattle.text.proofs.Decimal.{Partly, partly-none, partly-fits, partly-length, partly-some, partly-more, partly-all}
 use Rattle.text.proofs.write.put_decimal.Statement.{statement}
 use Rattle.text.proofs.write.put_decimal.Tie as tie
@@ -24,12 +21,12 @@ add-end : tie.Need-add-end Inv-loop μ-loop
 add-end c = omega (arith, c .decimal-size .ensures)
 
 loop-holds : tie.Need-loop-holds Inv-loop μ-loop
-loop-holds c = 
+loop-holds c =
     let a = c .before .before .args in
     partly-none (a .room .now) (a .at) (a .v) (omega arith) (omega arith) _ (ap (λ (k : ℕ). a .at + k) (c .decimal-size .ensures))
 
 sub-i : tie.Need-sub-i Inv-loop μ-loop
-sub-i c = 
+sub-i c =
     let a = c .before .before .before .before .args in
     let l = c .before .loop in
     omega (arith, partly-some (a .room .now) (a .at) (a .v) (omega arith) (omega arith) (l .room) (l .i) (l .x) (l .inv), l .inv .place)
@@ -41,7 +38,7 @@ add-room : tie.Need-add-room Inv-loop μ-loop
 add-room c = omega arith
 
 slice-write-room : tie.Need-slice-write-room Inv-loop μ-loop
-slice-write-room c = 
+slice-write-room c =
     let a = c .before .before .before .before .args in
     let l = c .before .loop in
     omega (
@@ -56,7 +53,7 @@ loop-less : tie.Need-loop-less Inv-loop μ-loop
 loop-less c = omega arith
 
 loop-again : tie.Need-loop-again Inv-loop μ-loop
-loop-again c = 
+loop-again c =
     let a = c .before .before .before .before .args in
     let l = c .before .loop in
     partly-more (a .room .now) (a .at) (a .v) (omega arith) (omega arith) (l .room) (l .i) (l .x) (l .inv) (omega arith)
@@ -68,7 +65,7 @@ add-room-2 : tie.Need-add-room-2 Inv-loop μ-loop
 add-room-2 c = omega arith
 
 slice-write-room-2 : tie.Need-slice-write-room-2 Inv-loop μ-loop
-slice-write-room-2 c = 
+slice-write-room-2 c =
     let a = c .before .before .before .before .args in
     let l = c .before .loop in
     omega (
@@ -80,13 +77,13 @@ slice-write-room-2 c =
     )
 
 same-length : tie.Need-same-length Inv-loop μ-loop
-same-length c = 
+same-length c =
     let a = c .before .before .before .before .args in
     let l = c .before .loop in
     simp length-set (partly-length (a .room .now) (a .at) (a .v) (omega arith) (omega arith) (l .room) (l .i) (l .x) (l .inv))
 
 returns : tie.Need-returns Inv-loop μ-loop
-returns c = 
+returns c =
     let a = c .before .before .before .before .args in
     let l = c .before .loop in
     partly-all (a .room .now) (a .at) (a .v) (omega arith) (omega arith) (l .room) (l .i) (l .x) (l .inv) (omega arith) _ (ap (λ (k : ℕ). a .at + k) (c .before .before .decimal-size .ensures))

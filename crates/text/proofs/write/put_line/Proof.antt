@@ -1,11 +1,7 @@
 -- `text::write::put_line` meets its contract: the word, the number, the line's end. Assumes nothing.
-use mathlib.Core.Path.{_≡_, refl, sym, ap, _∙_, subst}
-use mathlib.Core.List.{List, [], _∷_, _++_}
-use Prim.Native.Nat.{ℕ, _+_, _-_, _*_, _/_, _%_, _^_, _<_, _≤_}
+use mathlib.Core.List.{_++_}
 use native.Mathlib.Omega.{arith}
-use native.Mathlib.Numerals.{add-one}
-use borrow.Author.Needs.{needs}
-use lib.ListN.{length, getD, set, take, length-set, length-append}
+use lib.ListN.{length-set, length-append}
 use Rattle.text.specs.Lines.{decimal}
 use Rattle.text.proofs.Put.{wrote-more, wrote-byte, wrote-length, length-word-line}
 use Rattle.text.proofs.write.put_line.Statement.{statement}
@@ -15,14 +11,14 @@ put-word-requires : tie.Need-put-word-requires
 put-word-requires c κs = let a = c .before .before .before .args in omega (arith, length-word-line (a .word .now) (decimal (a .v)))
 
 put-decimal-requires : tie.Need-put-decimal-requires
-put-decimal-requires c κs = 
+put-decimal-requires c κs =
     let a = c .before .before .before .before .before .before .before .args in
     let w = c .before .before .before .put-word .ensures in
     let long = length-word-line (a .word .now) (decimal (a .v)) in
     omega (arith, w .place, wrote-length (a .room .now) (a .at) (a .word .now) _ _ w (omega arith))
 
 slice-write-room : tie.Need-slice-write-room
-slice-write-room c = 
+slice-write-room c =
     let a = c .before .before .before .before .before .before .before .before .before .before .args in
     let w = c .before .before .before .before .before .before .put-word .ensures in
     let v = c .before .before .put-decimal .ensures in
@@ -31,12 +27,12 @@ slice-write-room c =
     omega (arith, w .place, v .place, wrote-length (a .room .now) (a .at) (a .word .now ++ decimal (a .v)) _ _ both (omega (arith, length-append (a .word .now) (decimal (a .v)))))
 
 add-result : tie.Need-add-result
-add-result c = 
+add-result c =
     let a = c .before .before .before .before .before .before .before .before .before .before .args in
     omega (arith, c .before .before .before .before .before .before .put-word .ensures .place, c .before .before .put-decimal .ensures .place, length-word-line (a .word .now) (decimal (a .v)))
 
 same-length : tie.Need-same-length
-same-length c = 
+same-length c =
     let a = c .before .before .before .before .before .before .before .before .before .before .args in
     let w = c .before .before .before .before .before .before .put-word .ensures in
     let v = c .before .before .put-decimal .ensures in
@@ -45,7 +41,7 @@ same-length c =
     simp length-set (wrote-length (a .room .now) (a .at) (a .word .now ++ decimal (a .v)) _ _ both (omega (arith, length-append (a .word .now) (decimal (a .v)))))
 
 returns : tie.Need-returns
-returns c = 
+returns c =
     let a = c .before .before .before .before .before .before .before .before .before .before .args in
     let w = c .before .before .before .before .before .before .put-word .ensures in
     let v = c .before .before .put-decimal .ensures in

@@ -1,11 +1,6 @@
 -- `text::write::put_row` meets its contract: the bits, and then the line's end. Assumes nothing.
-use mathlib.Core.Path.{_≡_, refl, sym, ap, _∙_, subst}
-use mathlib.Core.List.{List, [], _∷_, _++_}
-use Prim.Native.Nat.{ℕ, _+_, _-_, _*_, _/_, _%_, _^_, _<_, _≤_}
 use native.Mathlib.Omega.{arith}
-use native.Mathlib.Numerals.{add-one}
 use borrow.Author.Needs.{needs}
-use lib.ListN.{length, getD, set, take, length-set}
 use Rattle.text.specs.Lines.{bits}
 use Rattle.text.proofs.RowLines.{length-bits}
 use Rattle.text.proofs.Put.{wrote-byte, wrote-length}
@@ -16,13 +11,13 @@ put-bits-requires : tie.Need-put-bits-requires
 put-bits-requires c κs = search needs
 
 slice-write-room : tie.Need-slice-write-room
-slice-write-room c = 
+slice-write-room c =
     let a = c .before .before .before .before .before .args in
     let w = c .before .before .put-bits .ensures in
     omega (arith, w .place, length-bits (a .n) (a .v), wrote-length (a .room .now) (a .at) (bits (a .n) (a .v)) _ _ w (omega (arith, length-bits (a .n) (a .v))))
 
 add-result : tie.Need-add-result
-add-result c = 
+add-result c =
     let a = c .before .before .before .before .before .args in
     let w = c .before .before .put-bits .ensures in
     omega (arith, w .place, length-bits (a .n) (a .v))
@@ -31,7 +26,7 @@ same-length : tie.Need-same-length
 same-length c = search needs
 
 returns : tie.Need-returns
-returns c = 
+returns c =
     let a = c .before .before .before .before .before .args in
     wrote-byte (a .room .now) (a .at) (bits (a .n) (a .v)) _ _ (c .before .before .put-bits .ensures) 10 (omega (arith, length-bits (a .n) (a .v)))
 
