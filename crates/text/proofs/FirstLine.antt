@@ -2,7 +2,7 @@
 use mathlib.Core.Path.{_≡_, refl, sym, ap, _∙_, subst}
 use mathlib.Core.Bool.{Bool, true, false}
 use mathlib.Core.List.{List, [], _∷_, _++_, append-assoc}
-use Prim.Native.Nat.{ℕ, _+_, _<_, _≤_}
+use Prim.Native.Nat.{ℕ, _+_, _<_}
 use native.Mathlib.Omega.{arith}
 use native.Mathlib.Numerals.{add-one}
 use borrow.Author.Tests.{lt-ltb, eq-eqb, ltb-true, eqb-true}
@@ -17,7 +17,7 @@ use Rattle.text.specs.Parsing.{numberAt, ended, fieldAt, then, upToR, up
 use Rattle.text.specs.declared.number.Parsed.{Parsed}
 use Rattle.text.specs.declared.number.Parsed.the-variants.{Value, Bad}
 use Rattle.text.specs.declared.number.Line.{Line}
-use Rattle.text.specs.declared.number.Line.the-variants.{Of, Unread}
+use Rattle.text.specs.declared.number.Line.the-variants.{Of}
 use Rattle.text.proofs.Numbers.{NumberAt, number-back, number-forth}
 
 -- ---- a field: a number and the byte that ends it

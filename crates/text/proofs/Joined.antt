@@ -1,25 +1,24 @@
 -- Which reading follows from a first line and a rest? Assumes nothing.
 use mathlib.Core.Path.{_≡_, refl, sym, ap, _∙_, subst}
 use mathlib.Core.Bool.{Bool, true, false}
-use mathlib.Core.List.{List, [], _∷_, _++_}
-use Prim.Native.Nat.{ℕ, zero, suc, _≤_, _<_}
+use mathlib.Core.List.{List, _++_}
+use Prim.Native.Nat.{ℕ, zero, suc}
 use native.Mathlib.Omega.{arith}
-use lib.ListN.{length, drop, take}
-use Rattle.bank.specs.Limits.{ROWS}
+use lib.ListN.{drop, take}
 use Rattle.bank.specs.Geometry.{inLimits}
 use Rattle.bank.specs.declared.Geometry.{Geometry}
 use Rattle.algebra.specs.Matrix.{singular}
 use Rattle.order.specs.declared.Order.{Order}
-use Rattle.order.specs.Order.{matrixOf, badForm, judgement}
+use Rattle.order.specs.Order.{matrixOf}
 use Rattle.order.proofs.Judged.{singular-three, regular-none}
 use Rattle.text.specs.Lines.{line, bits, rowLines}
 use Rattle.text.specs.OrderText.{firstLine, orderText}
 use Rattle.text.specs.Reading.{Begins, Whole, Reads, noOrder, no-first-line, outside, no-rest, singular as singular-read, taken}
 use Rattle.text.specs.Parsing.{firstLineAt}
-use Rattle.text.specs.Found.{RestFound, NoRest, RestIf}
+use Rattle.text.specs.Found.{RestFound, RestIf}
 use Rattle.text.specs.declared.number.Line.the-variants.{Of, Unread}
 use Rattle.text.proofs.RowLines.{same-rest}
-use Rattle.text.proofs.FirstLine.{FirstAt, FirstRead, first-line-forth, first-line-back}
+use Rattle.text.proofs.FirstLine.{FirstAt, first-line-forth, first-line-back}
 
 -- a reading, with the number and the order by equations
 as-read : (text : List ℕ) (k l : ℕ) (o p : Order) → k ≡ l → o ≡ p → Reads text l p → Reads text k o

@@ -1,6 +1,6 @@
 -- What is proved of order texts, over the definitions that the calls' promises cite? Assumes nothing.
 use mathlib.Core.Path.{_≡_, refl, sym, ap, _∙_, subst}
-use mathlib.Core.Bool.{Bool, true, false, true≢false}
+use mathlib.Core.Bool.{true, false, true≢false}
 use mathlib.Core.List.{List}
 use Prim.Native.Nat.{ℕ}
 use native.Mathlib.Omega.{arith}
@@ -12,7 +12,7 @@ use Rattle.order.specs.declared.Order.{Order}
 use Rattle.order.specs.Order.{judgement}
 use Rattle.order.proofs.Accepted.{judgement→accepted}
 use Rattle.text.specs.OrderText.{orderText}
-use Rattle.text.specs.Reading.{Begins, Whole, Reads, noOrder, no-first-line, outside, no-rest, singular, taken}
+use Rattle.text.specs.Reading.{Begins, Whole, Reads, no-first-line, outside, no-rest, singular, taken}
 use Rattle.text.proofs.FirstLine.{one-first-line}
 use Rattle.text.proofs.OneText.{begins-within, one-order}
 

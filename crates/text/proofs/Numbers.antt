@@ -1,21 +1,20 @@
 -- Which numbers does a reader find, and where? Assumes nothing.
-use mathlib.Core.Path.{_≡_, refl, sym, ap, _∙_, subst}
+use mathlib.Core.Path.{_≡_, refl, sym, ap, _∙_}
 use mathlib.Core.Bool.{Bool, true, false}
 use mathlib.Core.Logic.{⊎-elim}
 use mathlib.Core.List.{List, [], _∷_, _++_}
-use Prim.Native.Nat.{ℕ, zero, suc, _+_, _-_, _*_, _/_, _%_, _<_, _≤_}
+use Prim.Native.Nat.{ℕ, zero, suc, _+_, _*_, _/_, _%_, _<_, _≤_}
 use native.Mathlib.Omega.{arith}
 use native.Mathlib.Numerals.{add-one}
 use borrow.Author.Needs.{needs}
-use borrow.Author.Tests.{lt-ltb, le-ltb, le-leb, lt-leb, eq-eqb, ne-eqb, ltb-true, ltb-false, leb-true, leb-false, eqb-true, eqb-false}
+use borrow.Author.Tests.{lt-ltb, le-ltb, le-leb, lt-leb, eq-eqb, ne-eqb, ltb-true, ltb-false, leb-false, eqb-true, eqb-false}
 use lib.Dec.{ltb, leb, eqb}
 use lib.ListN.{length, getD, drop, List·getD-eq-default}
 use lib.Seq.{drop-cons, getD-drop}
 use Rattle.algebra.proofs.Search.{le-or-lt}
 use Rattle.text.specs.Lines.{digits, decimal}
-use Rattle.text.specs.Parsing.{digitOf, digitAt, numberAt, ended, fieldAt}
-use Rattle.text.specs.declared.number.Parsed.{Parsed}
-use Rattle.text.specs.declared.number.Parsed.the-variants.{Value, Bad}
+use Rattle.text.specs.Parsing.{digitOf, digitAt, numberAt, ended}
+use Rattle.text.specs.declared.number.Parsed.the-variants.{Value}
 
 pub ruleset tests = (needs, lt-ltb, le-ltb, le-leb, lt-leb, eq-eqb, ne-eqb)
 

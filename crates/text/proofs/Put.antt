@@ -1,11 +1,11 @@
 -- What is a room after several texts were written, one after the other? Assumes nothing.
 use mathlib.Core.Path.{_≡_, refl, sym, ap, _∙_}
-use mathlib.Core.List.{List, [], _∷_, _++_, append-assoc, append-nil}
+use mathlib.Core.List.{List, [], _∷_, _++_, append-assoc}
 use Prim.Native.Nat.{ℕ, suc, _+_, _≤_, _<_}
 use native.Mathlib.Omega.{arith}
 use native.Mathlib.Numerals.{add-one}
 use lib.ListN.{length, set, take, drop, length-append, length-drop, take-append-drop}
-use lib.Seq.{length-take-le, take-at, drop-at, drop-drop, drop-append-le, set-append-left, set-split, take-set-lt, take-suc-set, append-snoc}
+use lib.Seq.{length-take-le, take-at, drop-at, drop-drop, set-append-left, set-split, take-set-lt, take-suc-set, append-snoc}
 use Rattle.text.specs.Lines.{line}
 use Rattle.text.specs.Written.{put, Wrote}
 

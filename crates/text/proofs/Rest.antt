@@ -1,8 +1,8 @@
 -- Does an order's rest follow the first line? Assumes nothing.
 use mathlib.Core.Path.{_≡_, refl, sym, ap, _∙_, subst}
 use mathlib.Core.Bool.{Bool, true, false, not, _&&_}
-use mathlib.Core.List.{List, [], _∷_, _++_, append-assoc, append-nil}
-use Prim.Native.Nat.{ℕ, zero, suc, _+_, _*_, _^_, _<_, _≤_}
+use mathlib.Core.List.{List, [], _++_, append-nil}
+use Prim.Native.Nat.{ℕ, _+_, _*_, _^_, _<_, _≤_}
 use native.Mathlib.Omega.{arith}
 use borrow.Author.Tests.{lt-leb, leb-true, eq-eqb}
 use lib.Dec.{eqb, leb}
@@ -11,8 +11,7 @@ use lib.Seq.{length-take-le}
 use Rattle.bank.specs.Limits.{ROWS}
 use Rattle.bank.specs.Geometry.{records}
 use Rattle.bank.specs.declared.Geometry.{Geometry}
-use Rattle.algebra.specs.Search.{some}
-use Rattle.algebra.proofs.Search.{none-intro, le-or-lt}
+use Rattle.algebra.proofs.Search.{none-intro}
 use Rattle.order.specs.declared.Order.{Order}
 use Rattle.order.specs.Order.{matrixOf, badForm}
 use Rattle.order.proofs.Judged.{by-place}

@@ -24,8 +24,8 @@ fn head_size(plan: Plan) -> usize
 {
     let passes = decimal_size(bank::wide(plan.count));
     let steps = decimal_size(total_steps(plan));
-    let result = decimal_size(bank::wide(result_area(plan)));
-    8 + passes + 7 + steps + 8 + result
+    let area = decimal_size(bank::wide(result_area(plan)));
+    8 + passes + 7 + steps + 8 + area
 }
 
 // How many bytes the passes have.
@@ -59,9 +59,12 @@ fn put_head(room: &mut [u8], plan: Plan) -> usize
     requires { ⌜ (sound plan ≡ true) × (length (headLines plan) ≤ length (now room)) ⌝ }
     ensures { λ r. ⌜ Wrote (now (room .entry)) 0 (headLines plan) (now (room .exit)) r ⌝ }
 {
-    let p = put_line(room, 0, b"passes ", bank::wide(plan.count));
-    let q = put_line(room, p, b"steps ", total_steps(plan));
-    put_line(room, q, b"result ", bank::wide(result_area(plan)))
+    let passes = bank::wide(plan.count);
+    let steps = total_steps(plan);
+    let area = bank::wide(result_area(plan));
+    let p = put_line(room, 0, b"passes ", passes);
+    let q = put_line(room, p, b"steps ", steps);
+    put_line(room, q, b"result ", area)
 }
 
 // Pass p: its number, its n rows, its complement.

@@ -1,11 +1,9 @@
 -- `text::listing::head_size` meets its contract: a number has at most 20 digits, and each line its word and its end. Assumes nothing.
-use mathlib.Core.Path.{_≡_, refl, sym, ap, _∙_, subst}
-use mathlib.Core.List.{List, [], _∷_, _++_}
-use Prim.Native.Nat.{ℕ, _+_, _-_, _*_, _/_, _%_, _^_, _<_, _≤_}
+use mathlib.Core.Path.{ap, _∙_}
+use Prim.Native.Nat.{ℕ}
 use native.Mathlib.Omega.{arith}
-use native.Mathlib.Numerals.{add-one}
 use borrow.Author.Needs.{needs}
-use lib.ListN.{length, getD, set, take, length-set}
+use lib.ListN.{length}
 use Rattle.text.specs.Lines.{decimal}
 use Rattle.text.proofs.Decimal.{decimal-length}
 use Rattle.text.proofs.Passes.{length-head, sound-total}

@@ -1,11 +1,8 @@
 -- `text::listing::listing_size` meets its contract: the lengths of the two parts, or none. Assumes nothing.
-use mathlib.Core.Path.{_≡_, refl, sym, ap, _∙_, subst}
-use mathlib.Core.List.{List, [], _∷_, _++_}
-use Prim.Native.Nat.{ℕ, _+_, _-_, _*_, _/_, _%_, _^_, _<_, _≤_}
+use mathlib.Core.Path.{sym, ap, _∙_}
 use native.Mathlib.Omega.{arith}
-use native.Mathlib.Numerals.{add-one}
 use borrow.Author.Needs.{needs}
-use lib.ListN.{length, getD, set, take, length-append}
+use lib.ListN.{length, length-append}
 use borrow.Author.Tests.{not-true, not-false}
 use Rattle.text.specs.Written.{headLines, tailLines}
 use Rattle.text.proofs.Passes.{listing-none, listing-small, listing-parts}

@@ -1,12 +1,10 @@
 -- `text::listing::put_pass` meets its contract: its number, its rows and its complement, one after the other. Assumes nothing.
-use mathlib.Core.Path.{_≡_, refl, sym, ap, _∙_, subst}
-use mathlib.Core.List.{List, [], _∷_, _++_}
-use Prim.Native.Nat.{ℕ, _+_, _-_, _*_, _/_, _%_, _^_, _<_, _≤_}
+use mathlib.Core.List.{_++_}
+use Prim.Native.Nat.{_+_, _≤_}
 use native.Mathlib.Omega.{arith}
-use native.Mathlib.Numerals.{add-one}
 use borrow.Author.Needs.{needs}
-use lib.ListN.{length, getD, set, take, length-append}
-use Rattle.bank.specs.Limits.{ROWS, PASSES}
+use lib.ListN.{length, getD, take, length-append}
+use Rattle.bank.specs.Limits.{ROWS}
 use Rattle.text.specs.Lines.{line, decimal, bits, rowLines}
 use Rattle.text.specs.Listing.{passWord}
 use Rattle.text.proofs.Put.{wrote-three, wrote-more, wrote-fits}

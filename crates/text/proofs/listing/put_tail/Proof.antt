@@ -1,13 +1,12 @@
 -- `text::listing::put_tail` meets its contract: after p turns the first p passes stand there. Assumes nothing.
-use mathlib.Core.Path.{_≡_, refl, sym, ap, _∙_, subst}
-use mathlib.Core.List.{List, [], _∷_, _++_}
-use Prim.Native.Nat.{ℕ, _+_, _-_, _*_, _/_, _%_, _^_, _<_, _≤_}
+use mathlib.Core.Path.{_≡_, refl, ap, _∙_}
+use mathlib.Core.List.{_++_}
+use Prim.Native.Nat.{_+_, _-_, _≤_}
 use native.Mathlib.Omega.{arith}
-use native.Mathlib.Numerals.{add-one}
 use borrow.Author.Needs.{needs}
-use lib.ListN.{length, getD, set, take, length-append}
+use lib.ListN.{length, length-append}
 use Rattle.planning.proofs.Running.{sound-allowed, sound-few}
-use Rattle.text.specs.Written.{Wrote, passAtLines, tailLines}
+use Rattle.text.specs.Written.{Wrote, passAtLines}
 use Rattle.text.proofs.Put.{wrote-none, wrote-more, wrote-length, wrote-fits}
 use Rattle.text.proofs.Passes.{upTo, up-to-none, up-to-more, up-to-short, up-to-all}
 use Rattle.text.proofs.listing.put_tail.Statement.{statement}

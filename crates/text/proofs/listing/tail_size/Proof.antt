@@ -1,14 +1,10 @@
 -- `text::listing::tail_size` meets its contract: after p turns the size is that of p passes. Assumes nothing.
-use mathlib.Core.Path.{_≡_, refl, sym, ap, _∙_, subst}
-use mathlib.Core.List.{List, [], _∷_, _++_}
-use Prim.Native.Nat.{ℕ, _+_, _-_, _*_, _/_, _%_, _^_, _<_, _≤_}
+use mathlib.Core.Path.{_≡_, refl, sym, ap, _∙_}
+use Prim.Native.Nat.{_+_, _-_, _*_, _≤_}
 use native.Mathlib.Omega.{arith}
-use native.Mathlib.Numerals.{add-one}
 use borrow.Author.Needs.{needs}
-use lib.ListN.{length, getD, set, take, length-set}
 use Rattle.bank.specs.Limits.{ROWS, PASSES}
 use Rattle.planning.proofs.Running.{sound-allowed, sound-few}
-use Rattle.text.specs.Lines.{decimal}
 use Rattle.text.proofs.Decimal.{decimal-length}
 use Rattle.text.proofs.Passes.{passesSize, passes-size-more, square-small, tail-length}
 use Rattle.text.proofs.listing.tail_size.Statement.{statement}

@@ -1,14 +1,11 @@
 -- `text::listing::write_listing` meets its contract: both parts, one after the other, or nothing. Assumes nothing.
-use mathlib.Core.Path.{_≡_, refl, sym, ap, _∙_, subst}
-use mathlib.Core.List.{List, [], _∷_, _++_}
-use Prim.Native.Nat.{ℕ, _+_, _-_, _*_, _/_, _%_, _^_, _<_, _≤_}
+use mathlib.Core.Path.{sym, ap, _∙_}
 use native.Mathlib.Omega.{arith}
-use native.Mathlib.Numerals.{add-one}
 use borrow.Author.Needs.{needs}
-use lib.ListN.{length, getD, set, take, length-append}
+use lib.ListN.{length, length-append}
 use borrow.Author.Tests.{not-true, not-false}
 use Rattle.text.specs.Listing.{listing}
-use Rattle.text.specs.Written.{Wrote, headLines, tailLines}
+use Rattle.text.specs.Written.{headLines, tailLines}
 use Rattle.text.proofs.Put.{wrote-more, wrote-fits}
 use Rattle.text.proofs.Passes.{listing-small, listing-parts, no-room, nothing-listed, listed-whole}
 use Rattle.text.proofs.listing.write_listing.Statement.{statement}

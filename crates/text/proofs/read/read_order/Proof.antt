@@ -1,6 +1,5 @@
 -- `text::read::read_order` meets its contract: each return has passed the checks before it. Assumes nothing.
 use mathlib.Core.Path.{refl, sym, _∙_}
-use Prim.Native.Nat.{_≤_}
 use borrow.Author.Needs.{needs}
 use borrow.Author.Tests.{not-true, not-false}
 use Rattle.bank.proofs.Limits.{limits→allowed}

@@ -1,15 +1,12 @@
 -- `text::rows::row_at` meets its contract: the characters from place i on are the bits read so far; a row has a digit below 2 at each place, and LF after.
 -- Assumes nothing.
-use mathlib.Core.Path.{_≡_, refl, sym, ap, _∙_}
-use mathlib.Core.List.{List, [], _∷_, _++_}
-use Prim.Native.Nat.{ℕ, _+_, _-_, _*_, _^_, _<_, _≤_}
+use mathlib.Core.Path.{_≡_}
+use mathlib.Core.List.{_++_}
+use Prim.Native.Nat.{_+_, _-_, _^_, _<_, _≤_}
 use native.Mathlib.Omega.{arith}
-use native.Mathlib.Numerals.{add-one}
 use borrow.Author.Needs.{needs}
-use lib.ListN.{length, getD, drop}
-use lib.Seq.{drop-cons, append-snoc}
+use lib.ListN.{drop}
 use Rattle.text.specs.Lines.{bits}
-use Rattle.text.specs.Parsing.{digitAt}
 use Rattle.text.proofs.RowLines.{row-in, row-ends, row-digit, turn-low, turn-is, row-fits, row-done}
 use Rattle.text.proofs.rows.row_at.Statement.{statement}
 use Rattle.text.proofs.rows.row_at.Tie as tie

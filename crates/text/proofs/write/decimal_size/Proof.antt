@@ -1,11 +1,8 @@
 -- `text::write::decimal_size` meets its contract: each turn takes one digit away. Assumes nothing.
-use mathlib.Core.Path.{_≡_, refl, sym, ap, _∙_, subst}
-use mathlib.Core.List.{List, [], _∷_, _++_}
-use Prim.Native.Nat.{ℕ, _+_, _-_, _*_, _/_, _%_, _^_, _<_, _≤_}
+use mathlib.Core.Path.{_≡_, ap}
+use Prim.Native.Nat.{_+_, _≤_}
 use native.Mathlib.Omega.{arith}
-use native.Mathlib.Numerals.{add-one}
-use borrow.Author.Needs.{needs}
-use lib.ListN.{length, getD, set, take, length-set}
+use lib.ListN.{length}
 use Rattle.text.specs.Lines.{decimal}
 use Rattle.text.proofs.Numbers.{decimal-one}
 use Rattle.text.proofs.Decimal.{decimal-length, decimal-longer}

@@ -1,11 +1,8 @@
 -- `text::write::put_bits` meets its contract: after i turns the first i characters stand there. Assumes nothing.
-use mathlib.Core.Path.{_≡_, refl, sym, ap, _∙_, subst}
-use mathlib.Core.List.{List, [], _∷_, _++_}
-use Prim.Native.Nat.{ℕ, _+_, _-_, _*_, _/_, _%_, _^_, _<_, _≤_}
+use mathlib.Core.Path.{_≡_, refl, sym, ap, _∙_}
+use Prim.Native.Nat.{ℕ, _+_, _-_, _/_, _%_, _≤_}
 use native.Mathlib.Omega.{arith}
-use native.Mathlib.Numerals.{add-one}
-use borrow.Author.Needs.{needs}
-use lib.ListN.{length, getD, set, take, length-set}
+use lib.ListN.{length, length-set}
 use Rattle.text.specs.Lines.{bits}
 use Rattle.text.specs.Written.{Wrote}
 use Rattle.text.proofs.RowLines.{length-bits}

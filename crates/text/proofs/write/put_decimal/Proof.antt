@@ -1,12 +1,9 @@
 -- `text::write::put_decimal` meets its contract: what is left of the number and what is written are its digits. Assumes nothing.
-use mathlib.Core.Path.{_≡_, refl, sym, ap, _∙_, subst}
-use mathlib.Core.List.{List, [], _∷_, _++_}
-use Prim.Native.Nat.{ℕ, _+_, _-_, _*_, _/_, _%_, _^_, _<_, _≤_}
+use mathlib.Core.Path.{ap}
+use Prim.Native.Nat.{ℕ, _+_}
 use native.Mathlib.Omega.{arith}
-use native.Mathlib.Numerals.{add-one}
 use borrow.Author.Needs.{needs}
-use lib.ListN.{length, getD, set, take, length-set}
-use Rattle.text.specs.Lines.{decimal}
+use lib.ListN.{length-set}
 use Rattle.text.proofs.Decimal.{Partly, partly-none, partly-fits, partly-length, partly-some, partly-more, partly-all}
 use Rattle.text.proofs.write.put_decimal.Statement.{statement}
 use Rattle.text.proofs.write.put_decimal.Tie as tie

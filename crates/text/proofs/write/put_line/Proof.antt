@@ -1,11 +1,7 @@
 -- `text::write::put_line` meets its contract: the word, the number, the line's end. Assumes nothing.
-use mathlib.Core.Path.{_≡_, refl, sym, ap, _∙_, subst}
-use mathlib.Core.List.{List, [], _∷_, _++_}
-use Prim.Native.Nat.{ℕ, _+_, _-_, _*_, _/_, _%_, _^_, _<_, _≤_}
+use mathlib.Core.List.{_++_}
 use native.Mathlib.Omega.{arith}
-use native.Mathlib.Numerals.{add-one}
-use borrow.Author.Needs.{needs}
-use lib.ListN.{length, getD, set, take, length-set, length-append}
+use lib.ListN.{length-set, length-append}
 use Rattle.text.specs.Lines.{decimal}
 use Rattle.text.proofs.Put.{wrote-more, wrote-byte, wrote-length, length-word-line}
 use Rattle.text.proofs.write.put_line.Statement.{statement}

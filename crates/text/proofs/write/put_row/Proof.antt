@@ -1,11 +1,6 @@
 -- `text::write::put_row` meets its contract: the bits, and then the line's end. Assumes nothing.
-use mathlib.Core.Path.{_≡_, refl, sym, ap, _∙_, subst}
-use mathlib.Core.List.{List, [], _∷_, _++_}
-use Prim.Native.Nat.{ℕ, _+_, _-_, _*_, _/_, _%_, _^_, _<_, _≤_}
 use native.Mathlib.Omega.{arith}
-use native.Mathlib.Numerals.{add-one}
 use borrow.Author.Needs.{needs}
-use lib.ListN.{length, getD, set, take, length-set}
 use Rattle.text.specs.Lines.{bits}
 use Rattle.text.proofs.RowLines.{length-bits}
 use Rattle.text.proofs.Put.{wrote-byte, wrote-length}

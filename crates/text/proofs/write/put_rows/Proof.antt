@@ -1,11 +1,9 @@
 -- `text::write::put_rows` meets its contract: after i turns the lines of the first i rows stand there. Assumes nothing.
-use mathlib.Core.Path.{_≡_, refl, sym, ap, _∙_, subst}
-use mathlib.Core.List.{List, [], _∷_, _++_}
-use Prim.Native.Nat.{ℕ, _+_, _-_, _*_, _/_, _%_, _^_, _<_, _≤_}
+use mathlib.Core.Path.{_≡_, refl, _∙_}
+use Prim.Native.Nat.{_-_, _≤_}
 use native.Mathlib.Omega.{arith}
-use native.Mathlib.Numerals.{add-one}
 use borrow.Author.Needs.{needs}
-use lib.ListN.{length, getD, set, take, length-set}
+use lib.ListN.{length, getD, take}
 use Rattle.bank.specs.Limits.{ROWS}
 use Rattle.text.specs.Lines.{line, bits, rowLines}
 use Rattle.text.specs.Written.{Wrote}

@@ -1,11 +1,9 @@
 -- `text::write::put_word` meets its contract: after i turns the first i bytes stand there. Assumes nothing.
-use mathlib.Core.Path.{_≡_, refl, sym, ap, _∙_, subst}
-use mathlib.Core.List.{List, [], _∷_, _++_}
-use Prim.Native.Nat.{ℕ, _+_, _-_, _*_, _/_, _%_, _^_, _<_, _≤_}
+use mathlib.Core.Path.{_≡_, refl}
+use Prim.Native.Nat.{_+_, _-_, _≤_}
 use native.Mathlib.Omega.{arith}
 use native.Mathlib.Numerals.{add-one}
-use borrow.Author.Needs.{needs}
-use lib.ListN.{length, getD, set, take, length-set}
+use lib.ListN.{length, getD, take, length-set}
 use lib.Seq.{take-suc, take-length, length-take-le}
 use Rattle.text.specs.Written.{Wrote}
 use Rattle.text.proofs.Put.{wrote-none, wrote-byte}
