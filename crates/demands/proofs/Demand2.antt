@@ -1,7 +1,4 @@
 -- Demand 2 is proved. Assumes nothing.
-use mathlib.Core.Path.{_≡_}
-use lib.ListN.{length}
-use Rattle.bank.specs.Limits.{ROWS}
 use Rattle.algebra.specs.Matrix.{target}
 use Rattle.algebra.proofs.Singular.{Clash}
 use Rattle.order.specs.declared.Order.{Order}
@@ -9,8 +6,7 @@ use Rattle.order.specs.Order.{matrixOf}
 use Rattle.order.proofs.Main.{three→shared-target, shared-target→three, sends, comes}
 use Rattle.demands.specs.Demand2.{Demand2, SharedTarget, OnlySource}
 
--- for every order, whatever it holds; an order's rows fill the room of their array
-pub demand2 : (order : Order) → length (order .rows) ≡ ROWS → Demand2 order
+pub demand2 : Demand2
 unfolding target
 demand2 order room =
     record {

@@ -25,9 +25,9 @@ use Rattle.moving.specs.Bytes.{recordOf}
 use Rattle.moving.specs.Step.{Buffers, areaOf, fits}
 use Rattle.moving.specs.Call.{fresh}
 use Rattle.moving.specs.Line.{Call, line, straysRefused}
-use Rattle.moving.proofs.Main.{any-line, line-advance, delivered, no-two-blocks}
+use Rattle.moving.proofs.Main.{any-line, delivered, line-advance, no-two-blocks, others-stay}
 use Rattle.demands.specs.Demand2.{sentTo}
-use Rattle.demands.specs.Demand3.{Demand3}
+use Rattle.demands.specs.Demand3.{Delivery, Demand3}
 
 -- an order that is taken, and its plan
 module _ (order : Order) (room : length (order .rows) ≡ ROWS) (taken : judgement order ≡ 0) where
@@ -50,7 +50,7 @@ module _ (order : Order) (room : length (order .rows) ≡ ROWS) (taken : judgeme
       ap (λ (r : Route). performed (r .passes) x) route
       ∙ made-performs (order .geometry) (matrixOf order) (order .complement) (k .inside) (matrix-length order (k .inside) room) (k .regular) x h
 
-  made : (v : Buffers) → fits (order .geometry) v ≡ true → (cs : List Call) → straysRefused plan (fresh v) cs ≡ true → Demand3 order plan v cs
+  made : (v : Buffers) → fits (order .geometry) v ≡ true → (cs : List Call) → straysRefused plan (fresh v) cs ≡ true → Delivery order plan v cs
   unfolding target total passSteps phases routeOf planFor planOf
   made v fitting cs strays =
       let k = judgement→accepted order taken in
@@ -60,11 +60,11 @@ module _ (order : Order) (room : length (order .rows) ≡ ROWS) (taken : judgeme
         delivers = λ ends x h. subst (λ (p : ℕ). recordOf (order .geometry .r) (areaOf p (line plan (fresh v) cs .buffers)) (sentTo order x) ≡ recordOf (order .geometry .r) (v .area0) x) (route-length plan)
             (delivered plan plan-runs (matrixOf order) (order .complement) plan-performs v fitting cs strays ends .holds x h);
         one-block = no-two-blocks plan plan-runs;
+        others-stay = others-stay (routeOf plan);
         steps = ap (λ (p : ℕ). 2 * records (order .geometry) / (block (order .geometry) * drives (order .geometry)) * p) (route-length plan);
         passes = le-of-eq (made-length (order .geometry) (matrixOf order) (order .complement) (k .inside) (matrix-length order (k .inside) room) (k .regular));
       }
 
-  -- for the plan that a planning call hands back, any bytes of the right lengths at the start, and any line of calls from a fresh state whose stray calls are refused
-  pub demand3 : (v : Buffers) → fits (order .geometry) v ≡ true → (cs : List Call) → straysRefused (plannedFor order .plan) (fresh v) cs ≡ true → Demand3 order (plannedFor order .plan) v cs
-  demand3 v fitting cs =
-      subst (λ (a : Planned). straysRefused (a .plan) (fresh v) cs ≡ true → Demand3 order (a .plan) v cs) (sym (planned-taken order taken)) (made v fitting cs)
+pub demand3 : Demand3
+demand3 order room taken v fitting cs =
+    subst (λ (a : Planned). straysRefused (a .plan) (fresh v) cs ≡ true → Delivery order (a .plan) v cs) (sym (planned-taken order taken)) (made order room taken v fitting cs)

@@ -1,8 +1,8 @@
--- Do the demands speak of anything? An accepted order at every geometry, and for every accepted order a line that reaches the end. Assumes nothing.
+-- The demands speak of something: proved. Assumes nothing.
 use mathlib.Core.Path.{_≡_, refl, sym, ap, _∙_, subst}
 use mathlib.Core.Bool.{Bool, true, false, not, _&&_, _||_}
 use mathlib.Core.Logic.{⊎-elim}
-use mathlib.Core.List.{List, _++_}
+use mathlib.Core.List.{_++_}
 use Prim.Native.Nat.{ℕ, zero, suc, _+_, _-_, _^_, _≤_, _<_}
 use native.Mathlib.Omega.{arith}
 use borrow.Author.Tests.{eq-eqb, le-leb, lt-leb}
@@ -23,17 +23,15 @@ use Rattle.algebra.proofs.Columns.{identity-at, identity-length}
 use Rattle.order.specs.declared.Order.{Order}
 use Rattle.order.specs.Order.{matrixOf, badForm, judgement, strayRow, strayComplement, spareRow}
 use Rattle.order.proofs.Judged.{regular-none}
-use Rattle.planning.specs.declared.Plan.{Plan}
 use Rattle.planning.specs.Pass.{total}
 use Rattle.planning.specs.Stored.{routeOf}
 use Rattle.plan.specs.Answer.{plannedFor}
 use Rattle.plan.proofs.Main.{made-accepted}
 use Rattle.moving.specs.Step.{Buffers, fits}
 use Rattle.moving.specs.Call.{fresh}
-use Rattle.moving.specs.Line.{Call, line, straysRefused}
 use Rattle.moving.proofs.Calls.{can→ready}
-use Rattle.moving.proofs.Lines.{inTurn, in-turn, no-strays}
-use Rattle.demands.specs.Possible.{stillOrder}
+use Rattle.moving.proofs.Lines.{in-turn, no-strays}
+use Rattle.demands.specs.Possible.{Possible, Reaches, steadyLine, stillOrder}
 
 -- the identity sends only zero to zero
 pub identity-regular : (n : ℕ) → singular n (identity n) ≡ false
@@ -88,21 +86,15 @@ module _ (g : Geometry) (inside : inLimits g ≡ true) where
   pub still-taken : judgement (stillOrder g) ≡ 0
   still-taken = regular-none (stillOrder g) inside still-form (ap (singular (g .n)) still-matrix ∙ identity-regular (g .n))
 
--- the line that asks for each step of a plan in turn, each again as often as `more` says
-abbrev pub steadyLine : Plan → (ℕ → ℕ) → List Call
-steadyLine plan more = inTurn more (total (routeOf plan)) 0
-
--- a line that reaches the end of a plan, with no stray call
-pub record Reaches (plan : Plan) (v : Buffers) (cs : List Call) : Type 0 where
-  pub ends : line plan (fresh v) cs .next ≡ total (routeOf plan)
-  pub strays : straysRefused plan (fresh v) cs ≡ true
-
 -- for every order that is taken and bytes that fit, the steps in turn reach the end
-module _ (order : Order) (room : length (order .rows) ≡ ROWS) (taken : judgement order ≡ 0) (v : Buffers) (fitting : fits (order .geometry) v ≡ true) (more : ℕ → ℕ) where
-  pub steady-reaches : Reaches (plannedFor order .plan) v (steadyLine (plannedFor order .plan) more)
-  steady-reaches =
-      let k = made-accepted order room taken in
-      let plan = plannedFor order .plan in record {
-        ends = in-turn plan more v (can→ready plan (fresh v) (k .can-start) (subst (λ (g : Geometry). fits g v ≡ true) (sym (k .on-its-bank)) fitting));
-        strays = no-strays plan more (total (routeOf plan)) 0 (fresh v);
-      }
+steady-reaches : (order : Order) → length (order .rows) ≡ ROWS → judgement order ≡ 0 → (v : Buffers) → fits (order .geometry) v ≡ true
+    → (more : ℕ → ℕ) → Reaches (plannedFor order .plan) v (steadyLine (plannedFor order .plan) more)
+steady-reaches order room taken v fitting more =
+    let k = made-accepted order room taken in
+    let plan = plannedFor order .plan in record {
+      ends = in-turn plan more v (can→ready plan (fresh v) (k .can-start) (subst (λ (g : Geometry). fits g v ≡ true) (sym (k .on-its-bank)) fitting));
+      strays = no-strays plan more (total (routeOf plan)) 0 (fresh v);
+    }
+
+pub possible : Possible
+possible = record { some-order = still-taken; some-line = steady-reaches }

@@ -20,6 +20,7 @@ use Rattle.mover.specs.declared.step.Stepped.{Stepped}
 use Rattle.mover.specs.declared.run.Ran.{Ran}
 use Rattle.mover.specs.Promise.{StepPromise, RunPromise}
 use Rattle.text.specs.Reading.{Reads, noOrder}
+use Rattle.text.specs.Listing.{roomAfter, written}
 
 pub record Demand1 : Type 0 where
   -- asked forwards: address 0 with a refusal
@@ -40,3 +41,5 @@ pub record Demand1 : Type 0 where
   -- reading a text: an order zero everywhere, and one outcome
   pub read-refused : (text : List ℕ) (k : ℕ) (order : Order) → Reads text k order → (k ≡ 0 → ⊥) → order ≡ noOrder
   pub read-one : (text : List ℕ) (k k′ : ℕ) (order order′ : Order) → Reads text k order → Reads text k′ order′ → (k ≡ k′) × (order ≡ order′)
+  -- writing a listing: where no byte is written, the room is as it was
+  pub listing-none : (plan : Plan) (room : List ℕ) → written plan room ≡ 0 → roomAfter plan room ≡ room

@@ -4,6 +4,8 @@ use mathlib.Core.Bool.{true, false}
 use mathlib.Core.List.{[], _∷_}
 use Prim.Native.Nat.{ℕ, _<_}
 use lib.Bits.{bitXor}
+use lib.ListN.{length}
+use Rattle.bank.specs.Limits.{ROWS}
 use Rattle.bank.specs.Geometry.{inLimits, records}
 use Rattle.algebra.specs.Matrix.{apply}
 use Rattle.order.specs.declared.Order.{Order}
@@ -31,7 +33,8 @@ pub record OnlySource (order : Order) (y : ℕ) : Type 0 where
   pub goes : sentTo order x ≡ y
   pub only : (z : ℕ) → z < records (order .geometry) → sentTo order z ≡ y → z ≡ x
 
-pub record Demand2 (order : Order) : Type 0 where
+-- of an order, whatever it holds
+pub record Addresses (order : Order) : Type 0 where
   -- an accepted order sends x to Ax xor c ..
   pub sends : judgement order ≡ 0 → (x : ℕ) → x < records (order .geometry) → targetOf order x ≡ record { number = 0; address = record { 0 = sentTo order x } }
   -- .. asking backwards gives the only x that goes there ..
@@ -39,3 +42,7 @@ pub record Demand2 (order : Order) : Type 0 where
   -- .. and an order in good form is singular exactly when two addresses share a target
   pub singular-shares : inLimits (order .geometry) ≡ true → badForm order ≡ false → judgement order ≡ 3 → SharedTarget order
   pub shares-singular : inLimits (order .geometry) ≡ true → badForm order ≡ false → SharedTarget order → judgement order ≡ 3
+
+-- so it is for every order; the rows of an order fill the room of their array
+abbrev pub Demand2 : Type 0
+Demand2 = (order : Order) → length (order .rows) ≡ ROWS → Addresses order

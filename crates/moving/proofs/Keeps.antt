@@ -2,7 +2,7 @@
 use mathlib.Core.Path.{_∙_, _≡_, ap, ap₂, refl, subst, sym}
 use mathlib.Core.Bool.{Bool, _&&_, false, not, true}
 use mathlib.Core.List.{List}
-use Prim.Native.Nat.{_%_, _*_, _+_, _/_, _<_, _^_, suc, ℕ}
+use Prim.Native.Nat.{_%_, _*_, _+_, _/_, _<_, _^_, suc, zero, ℕ}
 use borrow.Author.Tests.{eq-eqb}
 use lib.Dec.{eqb}
 use lib.ListN.{getD, length}
@@ -77,6 +77,25 @@ module _ (route : Route) (s : ℕ) (v : Buffers) where
       where
         y : ℕ
         y = i / g .r
+
+-- the one or the other
+either : (P : Bool → Type 0) (e : Bool) → P e → P (not e) → (t : Bool) → P t
+either P true p q true = p
+either P true p q false = q
+either P false p q true = q
+either P false p q false = p
+
+-- so a step leaves every byte of the areas outside the records that it moves
+pub others-stay : (route : Route) (s : ℕ) (w : Buffers) (area : Bool) (i : ℕ) → i < length (areaBy area w) → touches route s (i / route .geometry .r) ≡ false
+    → getD (areaBy area (move route s w)) i 0 ≡ getD (areaBy area w) i 0
+others-stay route s w area i h n = by (phaseOf route s) refl
+  where
+    by : (f : ℕ) → phaseOf route s ≡ f → getD (areaBy area (move route s w)) i 0 ≡ getD (areaBy area w) i 0
+    by zero e = ap (λ (l : List ℕ). getD l i 0) (read-areas route s w e area)
+    by (suc f) e =
+        either (λ t. i < length (areaBy t w) → getD (areaBy t (move route s w)) i 0 ≡ getD (areaBy t w) i 0) (even (passOf route s))
+        (λ l. ap (λ (l : List ℕ). getD l i 0) (write-reads route s w f e))
+        (λ l. write-area route s w f e i l n) area h
 
 is-touched : (route : Route) (s : ℕ) (v : Buffers) → phaseOf route s ≡ 0 → (q : ℕ) → q < memory (route .geometry) → readTakes (route .geometry) (turnOf route s) q ≡ true
     → touches route s (readFrom (route .geometry) (loadOf route s) q) ≡ true

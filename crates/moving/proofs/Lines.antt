@@ -1,6 +1,6 @@
 -- What does a line of calls keep, and which lines reach the end? Assumes nothing.
 use mathlib.Core.Path.{_∙_, _≡_, ap, ap₂, refl, subst, sym}
-use mathlib.Core.Bool.{Bool, cond, false, true}
+use mathlib.Core.Bool.{Bool, _||_, cond, false, false≢true, not, true}
 use mathlib.Core.List.{List, [], _∷_}
 use Prim.Native.Nat.{_+_, _-_, _<_, _≤_, suc, zero, zero-le, ℕ}
 use native.Mathlib.Nat.{add-assoc, add-suc, add-zero}
@@ -11,9 +11,9 @@ use Rattle.algebra.proofs.Search.{and-l, and-r}
 use Rattle.moving.proofs.Again.{move-again}
 use Rattle.moving.proofs.Calls.{Ready, again-number, by-run, by-step, next-number, nine-means, ready-run, refused-count, refused-keeps, refused-run, run-again, run-count, run-none, run-one, run-ready, run-same, step-done, step-nine, step-ready}
 use Rattle.moving.proofs.Fits.{Fits, moves-fits}
-use Rattle.moving.specs.Call.{Moment, buffersBy, fresh, movesFrom, nextBy, ran, runCount, stepNumber, stepped}
-use Rattle.moving.specs.Line.Call.{asks, runs, strays}
-use Rattle.moving.specs.Line.{Call, call, line, lineSteps, newSteps, refuses, strayed, straysRefused}
+use Rattle.moving.specs.Call.{Moment, buffersBy, fresh, movesFrom, nextBy, ran, runCount, runNumber, stepNumber, stepped}
+use Rattle.moving.specs.Line.Call.{asks, runs, straysRun, straysStep}
+use Rattle.moving.specs.Line.{Call, Stray, call, inTurn, line, lineSteps, newSteps, refuses, repeated, returned, strayed, straysRefused}
 use Rattle.moving.specs.Step.{Buffers, move, moves}
 use Rattle.planning.specs.Pass.{Route, total}
 use Rattle.planning.specs.Stored.{routeOf}
@@ -36,6 +36,14 @@ unfolding moves
 done-again route v w s next e h =
     let n : w ≡ move route s (moves route s v) = h ∙ ap (λ (k : ℕ). moves route k v) (sym e ∙ add-one s) in
     ap (move route s) n ∙ move-again route s (moves route s v) ∙ sym n
+
+-- a number that refuses isn't 0
+refuses-not-done : (k : ℕ) → refuses k ≡ true → eqb k 0 ≡ false
+refuses-not-done k e = by (eqb k 0) (eqb k 9) e
+  where
+    by : (z n : Bool) → not (z || n) ≡ true → z ≡ false
+    by true n e = absurd (false≢true e)
+    by false n e = refl
 
 module _ (plan : Plan) (v : Buffers) where
   abbrev all : ℕ
@@ -75,20 +83,27 @@ module _ (plan : Plan) (v : Buffers) where
         once = ap (movesFrom (routeOf plan) (moment .next) (runCount plan moment q)) (k .once) ∙ moves-from (routeOf plan) (moment .next) (runCount plan moment q) v;
       }
 
-  kept-stray : (moment : Moment) (other : Plan) (next asked : ℕ) → refuses (stepNumber other (strayed moment next) asked) ≡ true → Kept plan v moment → Kept plan v (call plan moment (strays other next asked))
-  unfolding call
-  kept-stray moment other next asked e k =
-      record { within = k .within; once = ap (λ (w : Moment). w .buffers) (refused-keeps other (strayed moment next) asked e) ∙ k .once }
+  -- a stray call that changes no byte it was lent
+  kept-stray : (moment : Moment) (stray : Stray) (after : Moment) → after ≡ strayed moment stray → Kept plan v moment → Kept plan v (returned moment stray after)
+  kept-stray moment stray after e k =
+      record { within = k .within; once = ap (λ (w : Moment). stray .back (moment .buffers) (w .buffers)) e ∙ stray .unchanged (moment .buffers) ∙ k .once }
 
   pub kept-line : (moment : Moment) (cs : List Call) → straysRefused plan moment cs ≡ true → Kept plan v moment → Kept plan v (line plan moment cs)
   unfolding line straysRefused call
   kept-line moment [] e k = k
   kept-line moment (asks s ∷ cs) e k = kept-line (stepped plan moment s) cs e (kept-step moment s k)
   kept-line moment (runs q ∷ cs) e k = kept-line (ran plan moment q) cs e (kept-run moment q k)
-  kept-line moment (strays other next s ∷ cs) e k =
-      let number = refuses (stepNumber other (strayed moment next) s) in
-      let after = call plan moment (strays other next s) in
-      kept-line after cs (and-r number (straysRefused plan after cs) e) (kept-stray moment other next s (and-l number (straysRefused plan after cs) e) k)
+  kept-line moment (straysStep stray s ∷ cs) e k =
+      let number = refuses (stepNumber (stray .plan) (strayed moment stray) s) in
+      let after = call plan moment (straysStep stray s) in
+      kept-line after cs (and-r number (straysRefused plan after cs) e)
+      (kept-stray moment stray (stepped (stray .plan) (strayed moment stray) s) (refused-keeps (stray .plan) (strayed moment stray) s (and-l number (straysRefused plan after cs) e)) k)
+  kept-line moment (straysRun stray q ∷ cs) e k =
+      let number = refuses (runNumber (stray .plan) (strayed moment stray)) in
+      let after = call plan moment (straysRun stray q) in
+      kept-line after cs (and-r number (straysRefused plan after cs) e)
+      (kept-stray moment stray (ran (stray .plan) (strayed moment stray) q)
+      (refused-run (stray .plan) (strayed moment stray) q (refuses-not-done (runNumber (stray .plan) (strayed moment stray)) (and-l number (straysRefused plan after cs) e))) k)
 
   -- ANY LINE from a fresh state whose stray calls are refused
   pub any-line : (cs : List Call) → straysRefused plan (fresh v) cs ≡ true → Kept plan v (line plan (fresh v) cs)
@@ -113,7 +128,8 @@ call-advance plan moment (asks s) = by (eqb (stepNumber plan moment s) 0)
     by true = refl
     by false = sym (add-zero (moment .next))
 call-advance plan moment (runs q) = refl
-call-advance plan moment (strays other next s) = sym (add-zero (moment .next))
+call-advance plan moment (straysStep stray s) = sym (add-zero (moment .next))
+call-advance plan moment (straysRun stray q) = sym (add-zero (moment .next))
 
 pub line-advance : (plan : Plan) (moment : Moment) (cs : List Call) → line plan moment cs .next ≡ moment .next + lineSteps plan moment cs
 unfolding line lineSteps
@@ -123,16 +139,6 @@ line-advance plan moment (c ∷ cs) =
     ∙ add-assoc (moment .next) (newSteps plan moment c) (lineSteps plan (call plan moment c) cs)
 
 -- ---- the steps in turn reach the total
-
--- step j asked i times more
-repeated : ℕ → ℕ → List Call → List Call
-repeated zero j rest = rest
-repeated (suc i) j rest = asks j ∷ repeated i j rest
-
--- the k steps from j on, each asked once and then as often more as the line likes
-pub inTurn : (ℕ → ℕ) → ℕ → ℕ → List Call
-inTurn more zero j = []
-inTurn more (suc k) j = asks j ∷ repeated (more j) j (inTurn more k (suc j))
 
 module _ (plan : Plan) where
   -- ready for step j

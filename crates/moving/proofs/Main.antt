@@ -1,27 +1,28 @@
 -- What do calls promise? The laws of this crate in one place; what one pass does stands in All, and what stays in a step in Keeps. Assumes nothing.
 use mathlib.Core.Path.{_∙_, _≡_, ap, ap₂, refl, sym}
-use mathlib.Core.Bool.{false, true}
+use mathlib.Core.Bool.{Bool, false, true}
 use mathlib.Core.List.{List, [], _∷_}
 use Prim.Native.Nat.{_%_, _*_, _+_, _-_, _/_, _<_, _^_, _≤_, min, ℕ}
 use native.Mathlib.Nat.{zero-add}
 use lib.Dec.{eqb}
-use lib.ListN.{length}
+use lib.ListN.{getD, length}
 use Rattle.algebra.specs.Matrix.{target}
 use Rattle.bank.specs.Geometry.{block, blockAt, driveAt, drives, records}
 use Rattle.moving.proofs.All.{all-passes}
 use Rattle.moving.proofs.Calls as calls
 use Rattle.moving.proofs.Drives as blocks
 use Rattle.moving.proofs.Fits.{fits→Fits}
+use Rattle.moving.proofs.Keeps as keeps
 use Rattle.moving.proofs.Lines as lines
-use Rattle.moving.proofs.Lines.{Kept, inTurn}
+use Rattle.moving.proofs.Lines.{Kept}
 use Rattle.moving.specs.Blocks.{stepBlock}
 use Rattle.moving.specs.Bytes.{recordOf}
 use Rattle.moving.specs.Call.{Moment, fresh, ran, runCount, runNumber, stepNumber, stepped}
 use Rattle.moving.specs.Line.Call.{runs}
-use Rattle.moving.specs.Line.{Call, line, lineSteps, refuses, straysRefused}
-use Rattle.moving.specs.Step.{Buffers, areaOf, fits, moves, touches}
+use Rattle.moving.specs.Line.{Call, inTurn, line, lineSteps, refuses, straysRefused}
+use Rattle.moving.specs.Step.{Buffers, areaBy, areaOf, fits, move, moves, touches}
 use Rattle.planning.proofs.Runs.{Runs}
-use Rattle.planning.specs.Pass.{passSteps, performed, phases, total}
+use Rattle.planning.specs.Pass.{Route, passSteps, performed, phases, total}
 use Rattle.planning.specs.Running.{canRun}
 use Rattle.planning.specs.Stored.{routeOf}
 use Rattle.planning.specs.declared.Plan.{Plan}
@@ -109,7 +110,11 @@ module _ (plan : Plan) (can : Runs (routeOf plan)) (rows : List ℕ) (c : ℕ)
   unfolding straysRefused
   run-delivers e q h = delivered (runs q ∷ []) refl (lines.run-through plan q v h (calls.can→ready plan (fresh v) e fitting))
 
--- ---- a step moves one block on a drive
+-- ---- a step moves one block on a drive, and nothing else
+
+pub others-stay : (route : Route) (s : ℕ) (w : Buffers) (area : Bool) (i : ℕ) → i < length (areaBy area w) → touches route s (i / route .geometry .r) ≡ false
+    → getD (areaBy area (move route s w)) i 0 ≡ getD (areaBy area w) i 0
+others-stay = keeps.others-stay
 
 module _ (plan : Plan) (can : Runs (routeOf plan)) (s : ℕ) (hs : s < total (routeOf plan)) where
   -- two records of a drive that the step moves lie in one block
