@@ -5,11 +5,11 @@ use native.Mathlib.Omega.{arith}
 use borrow.Author.Needs.{needs}
 use lib.Pow.{pow-pos}
 use Rattle.bank.specs.Checks.{refuse}
+use Rattle.bank.proofs.Limits.{limits→allowed}
 use Rattle.order.specs.Order.{formNumber}
 use Rattle.order.specs.Address.{questionNumber}
 use Rattle.order.proofs.Asked.{in-word, number-form, number-solved, solvable, source-given, source-refused, source-solved}
 use Rattle.order.proofs.Judged.{form-none}
-use Rattle.bank.proofs.Limits.{limits→allowed}
 use Rattle.order.proofs.address.source_of.Statement.{statement}
 use Rattle.order.proofs.address.source_of.Tie as tie
 
