@@ -1,2 +1,3 @@
--- The code's entries, as the definitions have them.
+-- The code's entries and answers, as the definitions have them.
 pub mod Echelon
+pub mod Solved

@@ -5,7 +5,8 @@ ghost use mathlib.Core.List.{_++_};
 ghost use Prim.Native.Nat.{_<_, _≤_, _-_, _^_};
 ghost use lib.ListN.{take, replicate};
 ghost use Rattle.bank.specs.Limits.{ROWS};
-ghost use Rattle.algebra.specs.Matrix.{singular, source, inverse, columns, spills};
+ghost use Rattle.algebra.specs.Matrix.{singular, inverse, columns, spills};
+ghost use Rattle.matrix.specs.Solved.{solvedFor};
 use crate::echelon::eliminate;
 use crate::echelon::grow;
 use crate::echelon::no_entries;
@@ -14,6 +15,12 @@ use crate::rows::apply_part;
 use crate::rows::columns;
 use crate::vector::power;
 use bank::ROWS;
+
+// Whether a matrix is singular and, where it isn't, the source of an address; 0 where it is.
+pub struct Solved {
+    pub singular: bool,
+    pub source: u32,
+}
 
 // Whether the matrix of the first n rows sends some nonzero vector to zero.
 pub fn is_singular(rows: &[u32; ROWS], n: usize) -> bool
@@ -26,15 +33,25 @@ pub fn is_singular(rows: &[u32; ROWS], n: usize) -> bool
     count < n
 }
 
-// The address that the first n rows and c send to y.
-pub fn source(rows: &[u32; ROWS], n: usize, c: u32, y: u32) -> u32
-    requires { ⌜ (n ≤ ROWS) × (c < 2 ^ n) × (y < 2 ^ n) × (singular n (take n (now rows)) ≡ false) ⌝ }
-    ensures { λ r. ⌜ r ≡ source n (take n (now (rows .entry))) c y ⌝ }
+// Whether the first n rows are singular, and the address that they and c send to y: one elimination answers both.
+pub fn solve(rows: &[u32; ROWS], n: usize, c: u32, y: u32) -> Solved
+    requires { ⌜ (n ≤ ROWS) × (c < 2 ^ n) × (y < 2 ^ n) ⌝ }
+    ensures { λ r. ⌜ r ≡ solvedFor n (take n (now (rows .entry))) c y ⌝ }
 {
     let cols = columns(rows, 0, n, n);
     let e = eliminate(&cols, n);
+    let count = e.count;
+    if count < n {
+        return Solved {
+            singular: true,
+            source: 0,
+        };
+    }
     let r = reduce(e, y ^ c, 0);
-    r.tag
+    Solved {
+        singular: false,
+        source: r.tag,
+    }
 }
 
 // The columns of the inverse of the first n rows; the places after them hold zero.

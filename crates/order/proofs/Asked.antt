@@ -1,45 +1,62 @@
 -- What is answered to an address question? Assumes nothing.
-use mathlib.Core.Path.{_≡_, refl, sym, ap, ap₂, _∙_}
+use mathlib.Core.Path.{_≡_, refl, sym, ap, ap₂, subst, _∙_}
 use mathlib.Core.Logic.{⊎-elim}
-use mathlib.Core.Bool.{false}
+use mathlib.Core.Bool.{Bool, true, false}
 use mathlib.Core.List.{List, [], _∷_}
-use Prim.Native.Nat.{ℕ, zero, suc, _≤_, _<_, _^_}
-use native.Mathlib.Nat.{lt-of-lt-of-le}
+use Prim.Native.Nat.{ℕ, zero, suc, _%_, _≤_, _<_, _^_}
+use native.Mathlib.Nat.{lt-of-lt-of-le, mod-eq-of-lt, mod-lt}
 use native.Mathlib.Omega.{arith}
 use borrow.Author.Tests.{le-leb, lt-leb}
 use lib.Dec.{leb}
-use lib.Pow.{pow-mono}
+use lib.Pow.{pow-mono, pow-pos}
 use Rattle.bank.specs.Limits.{ROWS}
 use Rattle.bank.proofs.Limits.{limits→allowed}
 use Rattle.bank.specs.Geometry.{records}
 use Rattle.bank.specs.Checks.{refuse, orElse, handed}
 use Rattle.algebra.specs.Matrix.{target, source, singular}
 use Rattle.algebra.proofs.Search.{le-or-lt}
-use Rattle.order.specs.Order.{matrixOf, judgement}
+use Rattle.matrix.specs.Solved.{solvedFor}
+use Rattle.matrix.specs.declared.questions.Solved.{Solved}
+use Rattle.order.specs.Order.{matrixOf, formNumber, judgement}
 use Rattle.order.specs.Address.{questionNumber, targetOf, Found, meaningOf, foundFor}
+use Rattle.order.proofs.Judged.{or-else-stops, form-none, judgement-form, judgement-formed}
 use Rattle.order.proofs.Accepted.{judgement→accepted, complement-below}
 use Rattle.order.specs.declared.Order.{Order}
 use Rattle.order.specs.declared.address.Target.{Target}
 use Rattle.order.specs.declared.address.Source.{Source}
 use Rattle.order.specs.declared.address.Source.the-variants.{From, Refused}
 
+-- an address of n bits is a word
+pub in-word : (n x : ℕ) → n ≤ ROWS → x < 2 ^ n → x < 2 ^ 32
+in-word n x few h = lt-of-lt-of-le h (pow-mono {i = n} {j = 32} (omega arith))
+
 module _ (order : Order) (x : ℕ) where
   -- ---- the number
   pub number-order : (judgement order ≡ 0 → ⊥) → questionNumber order x ≡ judgement order
   unfolding questionNumber
-  number-order f = go (judgement order) f
-    where
-      go : (k : ℕ) → (k ≡ 0 → ⊥) → orElse k (refuse (leb (records (order .geometry)) x) 10 0) ≡ k
-      go zero f = absurd (f refl)
-      go (suc k) f = refl
+  number-order f = or-else-stops (judgement order) (refuse (leb (records (order .geometry)) x) 10 0) f
+
+  pub number-taken : judgement order ≡ 0 → questionNumber order x ≡ refuse (leb (records (order .geometry)) x) 10 0
+  unfolding questionNumber
+  number-taken e = rw e
 
   pub number-ten : judgement order ≡ 0 → records (order .geometry) ≤ x → questionNumber order x ≡ 10
-  unfolding questionNumber
-  number-ten e h = rw (e, le-leb (records (order .geometry)) x h)
+  number-ten e h = number-taken e ∙ ap (λ (t : Bool). refuse t 10 0) (le-leb (records (order .geometry)) x h)
 
   pub number-none : judgement order ≡ 0 → x < records (order .geometry) → questionNumber order x ≡ 0
+  number-none e h = number-taken e ∙ ap (λ (t : Bool). refuse t 10 0) (lt-leb (records (order .geometry)) x h)
+
+  pub number-form : (formNumber order ≡ 0 → ⊥) → questionNumber order x ≡ formNumber order
+  number-form f = number-order (λ z. f (sym (judgement-form order f) ∙ z)) ∙ judgement-form order f
+
+  pub number-formed : formNumber order ≡ 0 → questionNumber order x ≡ refuse (singular (order .geometry .n) (matrixOf order)) 3 (refuse (leb (records (order .geometry)) x) 10 0)
   unfolding questionNumber
-  number-none e h = rw (e, lt-leb (records (order .geometry)) x h)
+  number-formed e =
+      ap (λ (k : ℕ). orElse k (refuse (leb (records (order .geometry)) x) 10 0)) (judgement-formed order e) ∙ go (singular (order .geometry .n) (matrixOf order))
+    where
+      go : (s : Bool) → orElse (refuse s 3 0) (refuse (leb (records (order .geometry)) x) 10 0) ≡ refuse s 3 (refuse (leb (records (order .geometry)) x) 10 0)
+      go true = refl
+      go false = refl
 
   -- nothing is refused exactly where the order is taken and the address is below N
   pub none-means : questionNumber order x ≡ 0 → (judgement order ≡ 0) × (x < records (order .geometry))
@@ -54,20 +71,11 @@ module _ (order : Order) (x : ℕ) where
             (le-or-lt (records (order .geometry)) x),
       )
 
-  -- what the functions below ask, once nothing is refused
-  pub settled : questionNumber order x ≡ 0
-      → (order .geometry .n ≤ ROWS) × (order .complement < 2 ^ order .geometry .n) × (x < 2 ^ order .geometry .n) × (singular (order .geometry .n) (matrixOf order) ≡ false)
+  -- what A is applied to, once nothing is refused
+  pub settled : questionNumber order x ≡ 0 → (order .geometry .n ≤ ROWS) × (x < 2 ^ order .geometry .n)
   settled e =
       let m = none-means e in
-      let k = judgement→accepted order (m .0) in (
-        limits→allowed (order .geometry) (k .inside) .n-high,
-        complement-below order (k .form),
-        m .1,
-        k .regular,
-      )
-
-  pub in-word : questionNumber order x ≡ 0 → x < 2 ^ 32
-  in-word e = let h = settled e .0 in lt-of-lt-of-le (settled e .2) (pow-mono {i = order .geometry .n} {j = 32} (omega arith))
+      (limits→allowed (order .geometry) (judgement→accepted order (m .0) .inside) .n-high, m .1)
 
   -- ---- the answers, by the number
   pub target-refused : (k : ℕ) → k ≡ questionNumber order x → (k ≡ 0 → ⊥) → _≡_ {A = Target} (record { number = k; address = record { 0 = 0 } }) (targetOf order x)
@@ -94,3 +102,27 @@ module _ (order : Order) (x : ℕ) where
   pub source-given : (y : ℕ) → questionNumber order x ≡ 0 → y ≡ source (order .geometry .n) (matrixOf order) (order .complement) x → meaningOf (From (record { 0 = y })) ≡ foundFor order x
   unfolding meaningOf foundFor
   source-given y e q = rw e (ap (λ (k : ℕ). record { number = 0; sources = k ∷ [] }) q)
+
+-- ---- an order in good form, and the low n bits of x, of which one elimination tells whether A is singular, and the source
+module _ (order : Order) (x size : ℕ) (is : size ≡ records (order .geometry)) (form : formNumber order ≡ 0) where
+  pub solvable : (order .geometry .n ≤ ROWS) × (order .complement < 2 ^ order .geometry .n) × (x % size < 2 ^ order .geometry .n)
+  solvable =
+      let f = form-none order form in (
+        limits→allowed (order .geometry) (f .0) .n-high,
+        complement-below order (f .1),
+        subst (λ (k : ℕ). x % k < records (order .geometry)) (sym is) (mod-lt x (pow-pos (order .geometry .n))),
+      )
+
+  module _ (s : Solved) (answer : s ≡ solvedFor (order .geometry .n) (matrixOf order) (order .complement) (x % size)) where
+    pub number-solved : refuse (s .singular) 3 (refuse (leb size x) 10 0) ≡ questionNumber order x
+    unfolding solvedFor
+    number-solved =
+        ap₂ (λ (t : Bool) (k : ℕ). refuse t 3 (refuse (leb k x) 10 0)) (ap (λ (s : Solved). s .singular) answer) is
+        ∙ sym (number-formed order x form)
+
+    pub source-solved : questionNumber order x ≡ 0 → s .source ≡ source (order .geometry .n) (matrixOf order) (order .complement) x
+    unfolding solvedFor
+    source-solved e =
+        let m = none-means order x e in
+        let low : x % size ≡ x = ap (λ (k : ℕ). x % k) is ∙ mod-eq-of-lt (m .1) in
+        ap (λ (s : Solved). s .source) answer ∙ rw (judgement→accepted order (m .0) .regular, low)

@@ -31,6 +31,10 @@ spareRow order = some (λ i. leb (order .geometry .n) i && not (eqb (getD (order
 unfoldable pub badForm : Order → Bool
 badForm order = strayRow order || strayComplement order || spareRow order
 
+-- the number for the form alone: 1, the geometry is outside the limits; 2, the order isn't in good form; 0, neither
+unfoldable pub formNumber : Order → ℕ
+formNumber order = refuse (not (inLimits (order .geometry))) 1 (refuse (badForm order) 2 0)
+
 -- the judgement of an order: 1, its geometry is outside the limits; 2, it isn't in good form; 3, A is singular; 0, it is taken
 unfoldable pub judgement : Order → ℕ
 judgement order =

@@ -2,7 +2,9 @@
 ghost use mathlib.Core.Path.{_≡_};
 ghost use Rattle.order.specs.Address.{questionNumber, targetOf, meaningOf, foundFor};
 use crate::Order;
+use crate::form_number;
 use crate::judge;
+use crate::refuse;
 use bank::Address;
 
 // Where an address goes: the number, and the address that it goes to, 0 where refused.
@@ -18,7 +20,7 @@ pub enum Source {
 }
 
 // The number of an address question: 1, 2, 3 for the order, then 10 for the address.
-pub fn question(order: Order, x: Address) -> u8
+fn question(order: Order, x: Address) -> u8
     ensures { λ r. ⌜ r ≡ questionNumber order (x .0) ⌝ }
 {
     let number = judge(order);
@@ -26,10 +28,7 @@ pub fn question(order: Order, x: Address) -> u8
         return number;
     }
     let g = order.geometry;
-    if bank::power(g.n) <= x.0 {
-        return 10;
-    }
-    0
+    refuse(bank::power(g.n) <= x.0, 10, 0)
 }
 
 // Where the order sends x: Ax xor c.
@@ -53,16 +52,22 @@ pub fn target_of(order: Order, x: Address) -> Target
     }
 }
 
-// The one address that the order sends to y.
+// The one address that the order sends to y. One elimination tells 3 and the source, so it is asked of the low n bits of y before 10 is known.
 pub fn source_of(order: Order, y: Address) -> Source
     ensures { λ r. ⌜ meaningOf r ≡ foundFor order (y .0) ⌝ }
 {
-    let number = question(order, y);
-    if number != 0 {
-        return Source::Refused(number);
+    let form = form_number(order);
+    if form != 0 {
+        return Source::Refused(form);
     }
     let g = order.geometry;
     let rows = order.rows;
-    let x = matrix::questions::source(&rows, g.n as usize, order.complement, y.0 as u32);
-    Source::From(Address(bank::wide(x)))
+    let size = bank::power(g.n);
+    let low = (y.0 % size) as u32;
+    let solved = matrix::questions::solve(&rows, g.n as usize, order.complement, low);
+    let number = refuse(solved.singular, 3, refuse(size <= y.0, 10, 0));
+    if number != 0 {
+        return Source::Refused(number);
+    }
+    Source::From(Address(bank::wide(solved.source)))
 }

@@ -5,7 +5,8 @@ pub mod address; // address.rt: where an address goes, and where one comes from
 ghost use mathlib.Core.Path.{_≡_};
 ghost use Prim.Native.Nat.{_≤_};
 ghost use Rattle.bank.specs.Limits.{ROWS};
-ghost use Rattle.order.specs.Order.{badForm, judgement};
+ghost use Rattle.bank.specs.Checks.{refuse};
+ghost use Rattle.order.specs.Order.{badForm, formNumber, judgement};
 use crate::form::spare;
 use crate::form::stray;
 use bank::Geometry;
@@ -35,20 +36,32 @@ fn bad_form(order: Order) -> bool
     spare(&rows, n)
 }
 
-// The judgement of an order: 1, 2, 3 or 0, the first that applies.
-pub fn judge(order: Order) -> u8
-    ensures { λ r. ⌜ r ≡ judgement order ⌝ }
+// A check: its number where it applies, else what the later checks say.
+pub(crate) fn refuse(applies: bool, number: u8, later: u8) -> u8
+    ensures { λ r. ⌜ r ≡ refuse applies number later ⌝ }
+{
+    if applies { number } else { later }
+}
+
+// The checks that need no elimination: 1 for the geometry, 2 for the form, or 0.
+pub(crate) fn form_number(order: Order) -> u8
+    ensures { λ r. ⌜ r ≡ formNumber order ⌝ }
 {
     if !bank::in_limits(order.geometry) {
         return 1;
     }
-    if bad_form(order) {
-        return 2;
+    refuse(bad_form(order), 2, 0)
+}
+
+// The judgement of an order: 1, 2, 3 or 0, the first that applies.
+pub fn judge(order: Order) -> u8
+    ensures { λ r. ⌜ r ≡ judgement order ⌝ }
+{
+    let number = form_number(order);
+    if number != 0 {
+        return number;
     }
     let rows = order.rows;
     let n = order.geometry.n as usize;
-    if matrix::questions::is_singular(&rows, n) {
-        return 3;
-    }
-    0
+    refuse(matrix::questions::is_singular(&rows, n), 3, 0)
 }

@@ -1,49 +1,35 @@
--- `order::judge` meets its contract: each return has passed the checks before it. Assumes nothing.
-use mathlib.Core.Path.{sym, _∙_}
+-- `order::judge` meets its contract: the form's number, and after it whether A is singular. Assumes nothing.
+use mathlib.Core.Path.{ap, sym, _∙_}
+use mathlib.Core.Bool.{Bool}
 use borrow.Author.Needs.{needs}
-use borrow.Author.Tests.{not-true, not-false}
+use Rattle.bank.specs.Checks.{refuse}
 use Rattle.bank.proofs.Limits.{limits→allowed}
-use Rattle.order.proofs.Judged.{outside-limits, formless, singular-three, regular-none}
+use Rattle.order.proofs.Judged.{form-none, judgement-form, judgement-formed}
 use Rattle.order.proofs.judge.Statement.{statement}
 use Rattle.order.proofs.judge.Tie as tie
 
-in-limits-requires : tie.Need-in-limits-requires
-in-limits-requires c κs = search needs
+form-number-requires : tie.Need-form-number-requires
+form-number-requires c κs = search needs
 
 returns : tie.Need-returns
-returns c = sym (outside-limits (c .before .before .args .order) (sym (c .before .in-limits .ensures) ∙ not-true _ (c .if1 .taken)))
-
-bad-form-requires : tie.Need-bad-form-requires
-bad-form-requires c κs = limits→allowed _ (sym (c .before .in-limits .ensures) ∙ not-false _ (c .if1 .left)) .n-high
-
-returns-2 : tie.Need-returns-2
-returns-2 c = sym (formless (c .before .before .before .before .args .order) (sym (c .before .before .before .in-limits .ensures) ∙ not-false _ (c .before .before .if1 .left)) (sym (c .before .bad-form .ensures) ∙ c .if2 .taken))
+returns c =
+    let e = c .before .form-number .ensures in
+    e ∙ sym (judgement-form (c .before .before .args .order) (λ z. c .if1 .taken (e ∙ z)))
 
 cast-n : tie.Need-cast-n
 cast-n c = search needs
 
 is-singular-requires : tie.Need-is-singular-requires
-is-singular-requires c κs = limits→allowed _ (sym (c .before .before .before .before .before .before .in-limits .ensures) ∙ not-false _ (c .before .before .before .before .before .if1 .left)) .n-high
+is-singular-requires c κs = limits→allowed _ (form-none (c .before .before .before .before .before .args .order) (sym (c .before .before .before .before .form-number .ensures) ∙ c .before .before .before .if1 .left) .0) .n-high
 
-returns-3 : tie.Need-returns-3
-returns-3 c =
-    sym (singular-three (c .before .before .before .before .before .before .before .before .before .args .order) (sym (c .before .before .before .before .before .before .before .before .in-limits .ensures) ∙ not-false _ (c .before .before .before .before .before .before .before .if1 .left)) (sym (c .before .before .before .before .before .before .bad-form .ensures) ∙ c .before .before .before .before .before .if2 .left)
-    (sym (c .before .is-singular .ensures) ∙ c .if3 .taken))
+refuse-requires : tie.Need-refuse-requires
+refuse-requires c κs = search needs
 
-returns-4 : tie.Need-returns-4
-returns-4 c =
-    sym (regular-none (c .before .before .before .before .before .before .before .before .before .args .order) (sym (c .before .before .before .before .before .before .before .before .in-limits .ensures) ∙ not-false _ (c .before .before .before .before .before .before .before .if1 .left)) (sym (c .before .before .before .before .before .before .bad-form .ensures) ∙ c .before .before .before .before .before .if2 .left)
-    (sym (c .before .is-singular .ensures) ∙ c .if3 .left))
+returns-2 : tie.Need-returns-2
+returns-2 c =
+    c .refuse .ensures
+    ∙ ap (λ (t : Bool). refuse t 3 0) (c .before .is-singular .ensures)
+    ∙ sym (judgement-formed (c .before .before .before .before .before .before .before .args .order) (sym (c .before .before .before .before .before .before .form-number .ensures) ∙ c .before .before .before .before .before .if1 .left))
 
 pub judge-spec : {M : Type 1} → statement M
-judge-spec =
-    tie.close
-    (tie.spec
-    in-limits-requires
-    returns
-    bad-form-requires
-    returns-2
-    cast-n
-    is-singular-requires
-    returns-3
-    returns-4)
+judge-spec = tie.close (tie.spec form-number-requires returns cast-n is-singular-requires refuse-requires returns-2)

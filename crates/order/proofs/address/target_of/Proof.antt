@@ -16,7 +16,9 @@ returns c = target-refused (c .before .before .args .order) (c .before .before .
 
 cast-from : tie.Need-cast-from
 cast-from c =
-    record { fits = in-word (c .before .before .before .before .before .args .order) (c .before .before .before .before .before .args .x .0) (sym (c .before .before .before .before .question .ensures) ∙ c .before .before .before .if1 .left) }
+    let a = c .before .before .before .before .before .args in
+    let ok = settled (a .order) (a .x .0) (sym (c .before .before .before .before .question .ensures) ∙ c .before .before .before .if1 .left) in
+    record { fits = in-word (a .order .geometry .n) (a .x .0) (ok .0) (ok .1) }
 
 cast-apply : tie.Need-cast-apply
 cast-apply c = search needs
