@@ -123,11 +123,15 @@ module _ (plan : Plan) (inside : inLimits (plan .geometry) && countInLimits plan
   unfolding totalSteps
   total-inside = rw inside
 
-  -- in powers of two
-  pub total-powers : totalSteps plan ≡ 2 * 2 ^ plan .geometry .n / (2 ^ plan .geometry .b * 2 ^ plan .geometry .d) * plan .count
-  total-powers =
+  -- from N, B, D and the passes
+  pub total-from : (size block drives count : ℕ) → size ≡ 2 ^ plan .geometry .n → block ≡ 2 ^ plan .geometry .b → drives ≡ 2 ^ plan .geometry .d → count ≡ plan .count
+      → 2 * size / (block * drives) * count ≡ totalSteps plan
+  total-from size block drives count is-n is-b is-d is-count =
+      rw (is-n, is-b, is-d, is-count)
+      (sym (
       total-inside
       ∙ unfold total passSteps phases routeOf in ap (λ (k : ℕ). 2 * 2 ^ plan .geometry .n / (2 ^ plan .geometry .b * 2 ^ plan .geometry .d) * k) (route-length plan)
+      ))
 
 module _ (g : Geometry) (k : Allowed g) where
   -- N is small, and so is BD
