@@ -1,6 +1,6 @@
 -- What are xor, and, parity on numbers, digit by digit? Assumes nothing.
 use mathlib.Core.Path.{_∙_, _≡_, ap, ap₂, refl, subst, sym}
-use Prim.Native.Nat.{_%_, _*_, _+_, _-_, _/_, _<_, _^_, _≤_, suc, suc-le-suc, zero, zero-le, ℕ}
+use Prim.Native.Nat.{_%_, _*_, _+_, _/_, _<_, _^_, _≤_, suc, suc-le-suc, zero, zero-le, ℕ}
 use native.Mathlib.Numerals.{one-add}
 use native.Mathlib.Nat.{add-mod-mod, div-add-mod', div-eq-of-lt, div-lt-iff-lt-mul, div-one, le-of-suc-le-suc, lt-of-lt-of-le, mod-lt, not-suc-le-zero, pow-suc, zero-div, zero-lt-suc}
 use native.Mathlib.Omega.{arith}
@@ -8,7 +8,7 @@ use lib.Arith.{bin-ind, digits-div, digits-mod, half-le, lt-one}
 use lib.Pow.{pow-mono, pow-pos, shr-shr}
 use lib.Bits.{and-comm, and-mod, and-shr, bitAnd, bitXor, xor-comm, xor-lt, xor-mod, xor-self, xor-shr, xor-zero-r}
 use lib.Count.{ones, ones-step}
-use mathlib.Core.Logic.{_⊎_, ⊎-elim}
+use mathlib.Core.Logic.{⊎-elim}
 use Rattle.algebra.proofs.Search.{le-or-lt}
 use Rattle.algebra.specs.Vector.{bit, parity, times}
 

@@ -1,6 +1,6 @@
--- Which is the least vector that a matrix sends to zero? Assumes nothing.
-use mathlib.Core.Path.{_∙_, _≡_, ap, ap₂, subst, sym}
-use mathlib.Core.Bool.{not, true}
+-- When do columns sum to zero in one way only? Assumes nothing.
+use mathlib.Core.Path.{_∙_, _≡_, ap, subst, sym}
+use mathlib.Core.Bool.{true}
 use mathlib.Core.Logic.{_⊎_, inl, inr, ⊎-elim}
 use mathlib.Core.List.{List}
 use Prim.Native.Nat.{_*_, _+_, _-_, _<_, _^_, _≤_, suc, zero, ℕ}
@@ -9,13 +9,13 @@ use native.Mathlib.Omega.{arith}
 use lib.Arith.{lt-one}
 use lib.Dec.{eqb}
 use lib.ListN.{getD}
-use lib.Bits.{bitXor, xor-lt, xor-self, xor-shifted}
+use lib.Bits.{bitXor, xor-shifted}
 use borrow.Author.Tests.{eqb-false, not-true}
 use Rattle.algebra.proofs.Digits.{xor-eq}
 use Rattle.algebra.proofs.Linear.{comb-one, comb-xor}
 use Rattle.algebra.proofs.Search.{le-or-lt, none-elim}
-use Rattle.algebra.specs.Matrix.{columns, marked}
-use Rattle.algebra.specs.Search.{least, some}
+use Rattle.algebra.specs.Matrix.{marked}
+use Rattle.algebra.specs.Search.{some}
 use Rattle.algebra.specs.Vector.{comb}
 
 -- 2 ^ j over a number below it
@@ -49,19 +49,3 @@ independent cols (suc j) z m h e =
     (λ (t : (s : ℕ) × (s < 2 ^ j) × (z ≡ bitXor (2 ^ j) s)). absurd (marked-elim cols j (t .0) (m j (le-refl (suc j))) (t .1)
     (sym (xor-eq (getD cols j 0) (comb cols (t .0)) (sym (comb-top cols j (t .0)) ∙ ap (comb cols) (sym (t .2)) ∙ e)))))
     (top-digit j z h)
-
--- the first unmarked column, as a sum of those before it, gives the least
-module _ (cols : List ℕ) (j s : ℕ) (m : (i : ℕ) → i < j → marked cols i ≡ true) (h : s < 2 ^ j) (e : comb cols s ≡ getD cols j 0) where
-  pub first-zero : comb cols (bitXor (2 ^ j) s) ≡ 0
-  first-zero = comb-top cols j s ∙ ap (bitXor (getD cols j 0)) e ∙ xor-self (getD cols j 0)
-
-  pub first-least : (z : ℕ) → 0 < z → z < bitXor (2 ^ j) s → comb cols z ≡ 0 → ⊥
-  first-least z p l f =
-      let d : 2 ^ suc j ≡ 2 ^ j * 2 = pow-suc 2 j in
-      let q : bitXor (2 ^ j) s ≡ 2 ^ j + s = top-xor j s h in
-      ⊎-elim (λ (g : z < 2 ^ j). omega (arith, independent cols j z m g f))
-      (λ (t : (s : ℕ) × (s < 2 ^ j) × (z ≡ bitXor (2 ^ j) s)).
-      let same : comb cols (t .0) ≡ getD cols j 0 = sym (xor-eq (getD cols j 0) (comb cols (t .0)) (sym (comb-top cols j (t .0)) ∙ ap (comb cols) (sym (t .2)) ∙ f)) in
-      let o : bitXor (t .0) s ≡ 0 = independent cols j (bitXor (t .0) s) m (xor-lt j (t .0) s (t .1) h) (comb-xor cols (t .0) s ∙ ap₂ bitXor same e ∙ xor-self (getD cols j 0)) in
-      omega (arith, t .2, ap (bitXor (2 ^ j)) (xor-eq (t .0) s o)))
-      (top-digit j z (omega arith))

@@ -1,7 +1,7 @@
 -- Why is a matrix a linear function, and a number the sum of its powers of two? Assumes nothing.
 use mathlib.Core.Path.{_∙_, _≡_, ap, ap₂, refl, subst, sym}
 use mathlib.Core.List.{List, [], _∷_, map}
-use Prim.Native.Nat.{_%_, _*_, _+_, _-_, _/_, _<_, _^_, min, suc, suc-le-suc, zero, zero-le, ℕ}
+use Prim.Native.Nat.{_%_, _*_, _+_, _/_, _<_, _^_, min, suc, suc-le-suc, zero, zero-le, ℕ}
 use native.Mathlib.Nat.{add-mul, div-add-mod', div-one, le-refl, mod-eq-of-lt, mod-one, mul-assoc, mul-comm, mul-div-cancel, mul-mod-left, mul-one, one-mul, pow-suc, zero-min, zero-mul}
 use lib.Arith.{digits-div, digits-lt, digits-mod, lt-one}
 use lib.Pow.{mod-pow-add, pow-lt, pow-pos, shr-shr}
@@ -10,7 +10,7 @@ use native.Mathlib.Numerals.{add-one}
 use lib.ListN.{getD, length}
 use lib.Bits.{and-block, and-comm, and-lt, and-mask, and-step, and-zero-r, bitAnd, bitXor, xor-block, xor-comm, xor-lt, xor-mod, xor-shifted, xor-shr, xor-zero-r}
 use Rattle.algebra.proofs.Digits.{and-times, bit-cases, bit-here, bit-suc, bit-zero, digit, dot-xor, dot-xor-l, half-lt, parity-bit, parity-digit, parity-lt, parity-zero, times-add, times-lt, xor4}
-use Rattle.algebra.specs.Matrix.{apply, columns, identity, product}
+use Rattle.algebra.specs.Matrix.{apply, columns, identity}
 use Rattle.algebra.specs.Vector.{bit, comb, parity, times, units}
 
 pub apply-lt : (rows : List ℕ) (x : ℕ) → apply rows x < 2 ^ length rows
@@ -85,11 +85,6 @@ dot-comb (b ∷ bs) a x =
     split =
         ap (λ (k : ℕ). bitAnd k (apply bs x * 2 + e)) (sym (div-add-mod' a 2))
         ∙ and-block 1 (a / 2) (apply bs x) (a % 2) e (digit a) he
-
-pub apply-product : (a b : List ℕ) (x : ℕ) → apply (product a b) x ≡ apply a (apply b x)
-unfolding product apply
-apply-product [] b x = refl
-apply-product (r ∷ rs) b x = ap₂ (λ (u v : ℕ). u * 2 + v) (apply-product rs b x) (dot-comb b r x)
 
 -- ---- linear functions
 pub record Linear (f : ℕ → ℕ) : Type 0 where

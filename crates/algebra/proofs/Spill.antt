@@ -1,9 +1,9 @@
 -- When does an elimination show that a pass spills? Assumes nothing.
 use mathlib.Core.Path.{_∙_, _≡_, ap, ap₂, refl, sym}
 use mathlib.Core.Bool.{Bool, _&&_, false, not, true}
-use mathlib.Core.Logic.{_⊎_, ⊎-elim}
+use mathlib.Core.Logic.{⊎-elim}
 use mathlib.Core.List.{List}
-use Prim.Native.Nat.{_-_, _<_, _^_, suc, zero, ℕ}
+use Prim.Native.Nat.{_-_, _<_, _^_, suc, ℕ}
 use native.Mathlib.Nat.{lt-trans}
 use lib.Arith.{lt-one}
 use lib.Pow.{pow-lt}

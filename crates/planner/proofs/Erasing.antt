@@ -1,7 +1,7 @@
 -- Which columns of E has a loop made so far, and what does the elimination of δ give for the next? Assumes nothing.
 use mathlib.Core.Path.{_∙_, _≡_, ap, ap₂, refl, subst, sym}
 use mathlib.Core.Bool.{Bool, false, true}
-use mathlib.Core.List.{List, _++_, map}
+use mathlib.Core.List.{List, _++_}
 use mathlib.Core.Logic.{⊎-elim}
 use Prim.Native.Nat.{_%_, _*_, _+_, _-_, _/_, _<_, _^_, _≤_, suc, zero, ℕ}
 use native.Mathlib.Nat.{lt-of-lt-of-le, mod-eq-of-lt, zero-mul}
@@ -18,7 +18,6 @@ use Rattle.algebra.proofs.Basis.{rest-linear}
 use Rattle.algebra.proofs.Built.{built-same}
 use Rattle.algebra.proofs.Digits.{bit-zero}
 use Rattle.algebra.proofs.Linear.{comb-one}
-use Rattle.algebra.proofs.Questions.{drop-take}
 use Rattle.algebra.proofs.Search.{le-or-lt}
 use Rattle.planning.specs.Columns.{adding, delta, phi, zeroColumn}
 use Rattle.planning.specs.Making.{eraser, erases}

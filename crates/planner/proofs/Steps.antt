@@ -15,13 +15,12 @@ use Rattle.algebra.proofs.Built.{built-same}
 use Rattle.algebra.proofs.Columns.{columns-length}
 use Rattle.algebra.proofs.Linear.{comb-one}
 use Rattle.algebra.proofs.Loops.{times-nil, times-not}
-use Rattle.algebra.proofs.Questions.{drop-take}
 use Rattle.algebra.proofs.Search.{le-or-lt}
 use Rattle.algebra.specs.Elimination.{Echelon, built, used}
 use Rattle.algebra.specs.Matrix.{columns, marked, oneIf, product}
 use Rattle.algebra.specs.Search.{which}
 use Rattle.algebra.specs.Vector.{bit, times}
-use Rattle.planning.proofs.Acts.{adding-at, adding-length, listed-length}
+use Rattle.planning.proofs.Acts.{adding-at, adding-length}
 use Rattle.planning.proofs.Bridges.{reached-marked, summands-used}
 use Rattle.planning.proofs.Dimension.{which-ext}
 use Rattle.planning.proofs.Step2.{after-length, summands-high, summands-marked}

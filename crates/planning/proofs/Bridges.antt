@@ -7,7 +7,7 @@ use native.Mathlib.Nat.{le-refl, le-suc, le-trans, mod-lt}
 use native.Mathlib.Numerals.{add-one}
 use native.Mathlib.Omega.{arith}
 use lib.Arith.{digits-lt}
-use lib.Pow.{high, low, pow-add, pow-lt, pow-pos, shr-lt}
+use lib.Pow.{high, low, pow-add, pow-pos, shr-lt}
 use lib.Dec.{eqb}
 use lib.ListN.{List·getD-map, getD, length, set}
 use lib.Seq.{drop-append-seam, getD-append-add, getD-set-other, getD-set-same, take-append-seam}
@@ -16,20 +16,18 @@ use borrow.Author.Tests.{eq-eqb, eqb-false, ne-eqb}
 use Rattle.algebra.proofs.Basis.{rest→marked, solved-zero, spanned, used-below}
 use Rattle.algebra.proofs.Built.{Built, built-is}
 use Rattle.algebra.proofs.Digits.{bit-times, bit-zero, times-zero}
-use Rattle.algebra.proofs.Linear.{comb-one, comb-xor, comb-zero}
+use Rattle.algebra.proofs.Linear.{comb-xor, comb-zero}
 use Rattle.algebra.proofs.Search.{below-suc, none-intro, some-intro}
 use Rattle.algebra.specs.Elimination.{Echelon, built, choose, grown, rest, used, withEntry}
 use Rattle.algebra.specs.Matrix.{marked}
-use Rattle.algebra.specs.Search.{listed}
 use Rattle.algebra.specs.Vector.{bit, comb, times}
-use Rattle.planning.proofs.Acts.{adding-at, comb-after, listed-at, placing-at}
 use Rattle.planning.proofs.Marks.{Only, bit-pow-other, only-xor}
 use Rattle.planning.proofs.Parts.{comb-drop, comb-take, parts-xor}
 use Rattle.planning.proofs.Round.{eraser-one, eraser-right}
 use Rattle.planning.proofs.Step1.{reached-elim, reached-intro}
-use Rattle.planning.proofs.Step2.{G1, G2, operations-sum, summands-one}
-use Rattle.planning.specs.Columns.{adding, after, delta, phi, placing, zeroColumn}
-use Rattle.planning.specs.Making.{chosen, eraser, mate, operations, reached, step1, summands, unmarked}
+use Rattle.planning.proofs.Step2.{summands-one}
+use Rattle.planning.specs.Columns.{after, delta, phi, zeroColumn}
+use Rattle.planning.specs.Making.{eraser, reached, summands}
 
 -- ---- sums over two lists, one after the other
 pub comb-append : (u v : List ℕ) (s : ℕ) → comb (u ++ v) s ≡ bitXor (comb u (s % 2 ^ length u)) (comb v (s / 2 ^ length u))
@@ -139,25 +137,3 @@ eraser-used room hroom n b m hm cols small trailing hd hc j hb hj e =
 pub column-after : (a q : List ℕ) (j : ℕ) → getD (after a q) j 0 ≡ comb a (getD q j 0)
 unfolding after
 column-after a q j = ap (getD (map (comb a) q) j) (sym (comb-zero a)) ∙ List·getD-map (comb a) q j 0
-
--- columns added: column j with the set that g j picks
-pub column-adding : (a : List ℕ) (g : ℕ → ℕ) (n j : ℕ) → j < n → getD (after a (adding g n)) j 0 ≡ bitXor (getD a j 0) (comb a (g j))
-column-adding a g n j h =
-    sym (comb-one (after a (adding g n)) j) ∙ comb-after a (adding g n) (2 ^ j) ∙ ap (comb a) (adding-at g n j h) ∙ comb-xor a (2 ^ j) (g j) ∙ ap (λ (k : ℕ). bitXor k (comb a (g j))) (comb-one a j)
-
--- columns placed: column σ j in the place of column j
-pub column-placing : (a : List ℕ) (σ : ℕ → ℕ) (n j : ℕ) → j < n → getD (after a (placing σ n)) j 0 ≡ getD a (σ j) 0
-column-placing a σ n j h =
-    sym (comb-one (after a (placing σ n)) j) ∙ comb-after a (placing σ n) (2 ^ j) ∙ ap (comb a) (placing-at σ n j h) ∙ comb-one a (σ j)
-
--- P, and so P⁻¹: column j with what steps 1 and 2 add to it
-pub column-operations : (n m : ℕ) (hm : m ≤ n) (cols : List ℕ) (j : ℕ) → j < n
-    → getD (operations n m cols) j 0 ≡ bitXor (2 ^ j) (bitXor (mate (unmarked n m cols) (chosen n m cols) j) (summands m (after cols (step1 n m cols)) j))
-column-operations n m hm cols j h =
-    sym (comb-one (operations n m cols) j) ∙ operations-sum n m hm cols (2 ^ j) (pow-lt h) ∙ ap₂ (λ (x y : ℕ). bitXor (2 ^ j) (bitXor x y)) g1 g2
-  where
-    g1 : G1 n m hm cols (2 ^ j) ≡ mate (unmarked n m cols) (chosen n m cols) j
-    g1 = unfold G1 in comb-one (listed (mate (unmarked n m cols) (chosen n m cols)) n 0) j ∙ listed-at 0 (mate (unmarked n m cols) (chosen n m cols)) n 0 j h ∙ ap (mate (unmarked n m cols) (chosen n m cols)) (native.Mathlib.Nat.zero-add j)
-
-    g2 : G2 n m hm cols (2 ^ j) ≡ summands m (after cols (step1 n m cols)) j
-    g2 = unfold G2 in comb-one (listed (summands m (after cols (step1 n m cols))) n 0) j ∙ listed-at 0 (summands m (after cols (step1 n m cols))) n 0 j h ∙ ap (summands m (after cols (step1 n m cols))) (native.Mathlib.Nat.zero-add j)

@@ -2,7 +2,7 @@
 use mathlib.Core.Path.{_∙_, _≡_, ap, refl, sym}
 use mathlib.Core.Bool.{Bool, false, true}
 use mathlib.Core.List.{List, [], _++_, _∷_}
-use Prim.Native.Nat.{_+_, _^_, suc, zero, ℕ}
+use Prim.Native.Nat.{_+_, suc, zero, ℕ}
 use native.Mathlib.Nat.{add-zero}
 use native.Mathlib.Omega.{arith}
 use lib.Dec.{eqb}
@@ -10,7 +10,7 @@ use lib.ListN.{length}
 use borrow.Author.Tests.{eqb-true}
 use Rattle.algebra.specs.Search.{which}
 use Rattle.planning.proofs.Acts.{All}
-use Rattle.planning.specs.Making.{mate, partner}
+use Rattle.planning.specs.Making.{partner}
 
 -- the place j, where b says so
 abbrev pub one-place : Bool → ℕ → List ℕ
@@ -53,17 +53,3 @@ partner-snoc (u ∷ xs) (v ∷ ys) x y j l a b c d =
     go false true true s e f g h ih = absurd (b .0 (sym (eqb-true j x g) ∙ eqb-true j v f))
     go false true false true e f g h ih = absurd (d .0 (sym (eqb-true j y h) ∙ eqb-true j v f))
     go false true false false e f g h ih = refl
-
--- one more pair of which the first gets the second
-pub mate-snoc : (us ws : List ℕ) (u w j : ℕ) → length us ≡ length ws → All (λ z. u ≡ z → ⊥) us → mate (us ++ (u ∷ [])) (ws ++ (w ∷ [])) j ≡ elim (eqb j u) [ true ↦ 2 ^ w | false ↦ mate us ws j ]
-unfolding mate
-mate-snoc [] [] u w j l a = refl
-mate-snoc [] (v ∷ ws) u w j l a = absurd (omega (arith, l))
-mate-snoc (x ∷ us) [] u w j l a = absurd (omega (arith, l))
-mate-snoc (x ∷ us) (v ∷ ws) u w j l a = go (eqb j x) (eqb j u) refl refl (mate-snoc us ws u w j (omega (arith, l)) (a .1))
-  where
-    go : (p q : Bool) → eqb j x ≡ p → eqb j u ≡ q → mate (us ++ (u ∷ [])) (ws ++ (w ∷ [])) j ≡ elim q [ true ↦ 2 ^ w | false ↦ mate us ws j ]
-        → _≡_ {A = ℕ} (elim p [ true ↦ 2 ^ v | false ↦ mate (us ++ (u ∷ [])) (ws ++ (w ∷ [])) j ]) (elim q [ true ↦ 2 ^ w | false ↦ elim p [ true ↦ 2 ^ v | false ↦ mate us ws j ] ])
-    go false q e f ih = ih
-    go true true e f ih = absurd (a .0 (sym (eqb-true j u f) ∙ eqb-true j x e))
-    go true false e f ih = refl
