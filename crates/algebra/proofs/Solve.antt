@@ -6,21 +6,18 @@ use Prim.Native.Nat.{_<_, _^_, ℕ}
 use native.Mathlib.Nat.{lt-trans}
 use native.Mathlib.Omega.{arith}
 use lib.Pow.{pow-lt, pow-pos}
-use lib.Dec.{eqb}
 use lib.ListN.{getD}
 use lib.Bits.{bitXor, xor-lt, xor-self}
-use borrow.Author.Tests.{eqb-true, not-false}
 use Rattle.algebra.proofs.Basis.{Basis, solved-zero, used-below}
-use Rattle.algebra.proofs.Digits.{bit-place, bits-zero, xor-cancel-r}
-use Rattle.algebra.proofs.Kernel.{comb-top, independent, top-xor}
+use Rattle.algebra.proofs.Digits.{bit-place, bits-zero, top-xor, xor-cancel-r}
+use Rattle.algebra.proofs.Kernel.{comb-top, independent, unmarked-elim}
 use Rattle.algebra.proofs.Linear.{apply-columns}
 use Rattle.algebra.proofs.Pigeon.{covers}
 use Rattle.algebra.proofs.Pivots.{Pivots, pivots-apart, rest-lt, rest-off}
-use Rattle.algebra.proofs.Search.{none-intro, some-elim, some-intro}
+use Rattle.algebra.proofs.Search.{none-intro, some-intro}
 use Rattle.algebra.proofs.Singular.{kills-elim, kills-intro, source-target}
 use Rattle.algebra.specs.Elimination.{rest, used}
 use Rattle.algebra.specs.Matrix.{apply, columns, kills, marked, singular, source, target}
-use Rattle.algebra.specs.Search.{some}
 use Rattle.algebra.specs.Vector.{bit, comb}
 
 -- n pivots leave nothing of a vector of n bits
@@ -29,13 +26,6 @@ full n ws qs p hw y h =
     bits-zero n (rest ws qs n y) (rest-lt n ws qs n y hw h)
     (λ i l. let t = covers n (λ m. getD qs m 0) (λ m q. bit-place n (getD ws m 0) (getD qs m 0) (hw m q) (p .on m q)) (λ a b q r. pivots-apart ws qs n p a b r q) i l in
     ap (bit (rest ws qs n y)) (sym (t .2)) ∙ rest-off ws qs n p y (t .0) (t .1))
-
--- an unmarked column, as the sum of those to its left
-unmarked-elim : (cols : List ℕ) (j : ℕ) → marked cols j ≡ false → (s : ℕ) × (s < 2 ^ j) × (comb cols s ≡ getD cols j 0)
-unfolding marked
-unmarked-elim cols j e =
-    let t = some-elim (λ s. eqb (comb cols s) (getD cols j 0)) (2 ^ j) (not-false (some (λ s. eqb (comb cols s) (getD cols j 0)) (2 ^ j)) e) in
-    (t .0, t .1, eqb-true (comb cols (t .0)) (getD cols j 0) (t .2))
 
 module _ (n : ℕ) (rows : List ℕ) where
   pub unmarked→singular : (j : ℕ) → j < n → marked (columns n rows) j ≡ false → singular n rows ≡ true

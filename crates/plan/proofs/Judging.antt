@@ -10,7 +10,7 @@ use lib.Dec.{eqb, leb}
 use lib.ListN.{getD, take, drop}
 use lib.Pow.{pow-add, pow-mono, pow-pos}
 use lib.Seq.{take-take}
-use Rattle.algebra.proofs.Search.{and-both, and-l, and-r}
+use Rattle.algebra.proofs.Search.{and-both, and-l, and-r, some-ext}
 use Rattle.bank.specs.Limits.{ROWS, PASSES}
 use Rattle.bank.specs.Geometry.{inLimits, records}
 use Rattle.bank.specs.declared.Geometry.{Geometry}
@@ -22,7 +22,6 @@ use Rattle.planning.specs.Running.{canRun, countInLimits, singularPass, sound, 
 use Rattle.planning.specs.Stored.{routeOf, storedPass}
 use Rattle.planning.specs.declared.Plan.{Plan}
 use Rattle.planning.proofs.Running.{sound→checked}
-use Rattle.planning.proofs.Step2.{some-ext}
 use Rattle.planning.proofs.Stored.{route-at, route-length, taken-at}
 use Rattle.plan.specs.Total.{totalSteps}
 

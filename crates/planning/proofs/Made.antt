@@ -11,7 +11,7 @@ use Rattle.bank.specs.Geometry.{inLimits}
 use Rattle.bank.specs.Limits.{PASSES}
 use Rattle.bank.specs.declared.Geometry.{Geometry}
 use Rattle.algebra.specs.Matrix.{columns, rank, singular, spills, target}
-use Rattle.planning.proofs.Acts.{all-at, at-all}
+use Rattle.algebra.proofs.Lists.{all-at, at-all}
 use Rattle.planning.proofs.Bound.{passes-bound}
 use Rattle.planning.proofs.Run.{plan-half, plan-length, plan-moves, plan-runs}
 use Rattle.planning.proofs.Running.{runs-back, runs→sound, sound-allowed, sound-dry, sound→can-run, sound→checked}

@@ -1,36 +1,14 @@
 -- What are the lists of places, partners and mates with one more at the end? Assumes nothing.
-use mathlib.Core.Path.{_∙_, _≡_, ap, refl, sym}
+use mathlib.Core.Path.{_∙_, _≡_, refl, sym}
 use mathlib.Core.Bool.{Bool, false, true}
 use mathlib.Core.List.{List, [], _++_, _∷_}
-use Prim.Native.Nat.{_+_, suc, zero, ℕ}
-use native.Mathlib.Nat.{add-zero}
+use Prim.Native.Nat.{ℕ}
 use native.Mathlib.Omega.{arith}
 use lib.Dec.{eqb}
 use lib.ListN.{length}
 use borrow.Author.Tests.{eqb-true}
-use Rattle.algebra.specs.Search.{which}
-use Rattle.planning.proofs.Acts.{All}
+use Rattle.algebra.proofs.Lists.{All}
 use Rattle.planning.specs.Making.{partner}
-
--- the place j, where b says so
-abbrev pub one-place : Bool → ℕ → List ℕ
-one-place true j = j ∷ []
-one-place false j = []
-
-pub which-snoc : (p : ℕ → Bool) (k j : ℕ) → which p (suc k) j ≡ which p k j ++ one-place (p (j + k)) (j + k)
-unfolding which
-which-snoc p zero j = ap (λ (i : ℕ). elim (p i) [ true ↦ i ∷ [] | false ↦ [] ]) (sym (add-zero j)) ∙ go (p (j + 0))
-  where
-    go : (b : Bool) → _≡_ {A = List ℕ} (elim b [ true ↦ (j + 0) ∷ [] | false ↦ [] ]) (one-place b (j + 0))
-    go true = refl
-    go false = refl
-which-snoc p (suc k) j = go (p j) (which-snoc p k (suc j) ∙ ap (λ (i : ℕ). which p k (suc j) ++ one-place (p i) i) (omega arith))
-  where
-    go : (b : Bool) → which p (suc k) (suc j) ≡ which p k (suc j) ++ one-place (p (j + suc k)) (j + suc k)
-        → _≡_ {A = List ℕ} (elim b [ true ↦ j ∷ which p (suc k) (suc j) | false ↦ which p (suc k) (suc j) ])
-        (elim b [ true ↦ j ∷ which p k (suc j) | false ↦ which p k (suc j) ] ++ one-place (p (j + suc k)) (j + suc k))
-    go true e = ap (λ (l : List ℕ). j ∷ l) e
-    go false e = e
 
 -- one more pair that changes places
 pub partner-snoc : (xs ys : List ℕ) (x y j : ℕ) → length xs ≡ length ys → All (λ z. x ≡ z → ⊥) xs → All (λ z. x ≡ z → ⊥) ys → All (λ z. y ≡ z → ⊥) xs → All (λ z. y ≡ z → ⊥) ys
