@@ -145,6 +145,14 @@ unfolding times
 times-zero zero = refl
 times-zero (suc d) = refl
 
+pub times-no : (d v : ℕ) → d ≡ 0 → times d v ≡ 0
+unfolding times
+times-no d v e = ap (λ (k : ℕ). times k v) e
+
+pub times-none : (v : ℕ) → times 0 v ≡ 0
+unfolding times
+times-none v = refl
+
 pub times-xor : (d u v : ℕ) → times d (bitXor u v) ≡ bitXor (times d u) (times d v)
 unfolding times
 times-xor zero u v = refl
@@ -220,11 +228,14 @@ pub times-one : (d : ℕ) → d < 2 → times d 1 ≡ d
 unfolding times
 times-one = bit-cases (λ (d : ℕ). times d 1 ≡ d) refl refl
 
+-- no bit above the top
+pub bit-above : (x m i : ℕ) → x < 2 ^ m → m ≤ i → bit x i ≡ 0
+unfolding bit
+bit-above x m i h l = ap (λ (k : ℕ). k % 2) (div-eq-of-lt (lt-of-lt-of-le h (pow-mono l)))
+
 -- a set bit of a number below 2 ^ n stands below n
 pub bit-place : (n x i : ℕ) → x < 2 ^ n → bit x i ≡ 1 → i < n
-unfolding bit
-bit-place n x i h e =
-    ⊎-elim (λ (l : n ≤ i). absurd (let z : _≡_ {A = ℕ} 0 1 = sym (ap (λ (k : ℕ). k % 2) (div-eq-of-lt (lt-of-lt-of-le h (pow-mono l)))) ∙ e in omega arith)) (λ l. l) (le-or-lt n i)
+bit-place n x i h e = ⊎-elim (λ (l : n ≤ i). absurd (let z : _≡_ {A = ℕ} 0 1 = sym (bit-above x n i h l) ∙ e in omega arith)) (λ l. l) (le-or-lt n i)
 
 -- a number with no bit set is zero
 pub bits-zero : (n x : ℕ) → x < 2 ^ n → ((i : ℕ) → i < n → bit x i ≡ 0) → x ≡ 0
@@ -236,6 +247,26 @@ bits-zero (suc n) x h f =
 -- ---- numbers with the same bits
 pub bits-same : (n x y : ℕ) → x < 2 ^ n → y < 2 ^ n → ((i : ℕ) → i < n → bit x i ≡ bit y i) → x ≡ y
 bits-same n x y hx hy e = xor-eq x y (bits-zero n (bitXor x y) (xor-lt n x y hx hy) (λ i l. bit-xor x y i ∙ ap (λ (k : ℕ). bitXor k (bit y i)) (e i l) ∙ xor-self (bit y i)))
+
+-- ---- shifted numbers
+pub bit-shifted : (t m i : ℕ) → i < m → bit (t * 2 ^ m) i ≡ 0
+bit-shifted t zero i h = absurd (not-suc-le-zero h)
+bit-shifted t (suc m) zero h = bit-here (t * 2 ^ suc m) ∙ shifted-even t m
+bit-shifted t (suc m) (suc i) h = bit-suc (t * 2 ^ suc m) i ∙ ap (λ (k : ℕ). bit k i) (shifted-half t m) ∙ bit-shifted t m i (le-of-suc-le-suc h)
+
+pub bit-shl : (t m i : ℕ) → bit (t * 2 ^ m) (m + i) ≡ bit t i
+unfolding bit
+bit-shl t m i = ap (λ (k : ℕ). k % 2) (sym (shr-shr (t * 2 ^ m) m i) ∙ ap (λ (k : ℕ). k / 2 ^ i) (shl-shr t m))
+
+pub bit-shr : (x k i : ℕ) → bit (x / 2 ^ k) i ≡ bit x (k + i)
+unfolding bit
+bit-shr x k i = ap (λ (v : ℕ). v % 2) (shr-shr x k i)
+
+pub shl-below : (n m t : ℕ) → m ≤ n → t < 2 ^ (n - m) → t * 2 ^ m < 2 ^ n
+shl-below n m t hm h = subst (λ (k : ℕ). t * 2 ^ m < 2 ^ k) (sub-add-cancel hm) (shl-lt (n - m) m h)
+
+pub shr-below : (n m x : ℕ) → m ≤ n → x < 2 ^ n → x / 2 ^ m < 2 ^ (n - m)
+shr-below n m x hm h = shr-lt (n - m) m (subst (λ (k : ℕ). x < 2 ^ k) (sym (sub-add-cancel hm)) h)
 
 -- ---- powers of two, and numbers over and under them
 -- 2 ^ j over a number below it
@@ -250,19 +281,6 @@ top-digit j z h =
     (λ (l : 2 ^ j ≤ z). inr (z - 2 ^ j, omega arith, sym (top-xor j (z - 2 ^ j) (omega arith) ∙ omega arith)))
     (λ (l : z < 2 ^ j). inl l)
     (le-or-lt (2 ^ j) z)
-
-pub bit-shifted : (t m i : ℕ) → i < m → bit (t * 2 ^ m) i ≡ 0
-bit-shifted t zero i h = absurd (not-suc-le-zero h)
-bit-shifted t (suc m) zero h = bit-here (t * 2 ^ suc m) ∙ shifted-even t m
-bit-shifted t (suc m) (suc i) h = bit-suc (t * 2 ^ suc m) i ∙ ap (λ (k : ℕ). bit k i) (shifted-half t m) ∙ bit-shifted t m i (le-of-suc-le-suc h)
-
-pub bit-above : (x m i : ℕ) → x < 2 ^ m → m ≤ i → bit x i ≡ 0
-unfolding bit
-bit-above x m i h l = ap (λ (k : ℕ). k % 2) (div-eq-of-lt (lt-of-lt-of-le h (pow-mono l)))
-
-pub times-no : (d v : ℕ) → d ≡ 0 → times d v ≡ 0
-unfolding times
-times-no d v e = ap (λ (k : ℕ). times k v) e
 
 pub bit-pow : (j : ℕ) → bit (2 ^ j) j ≡ 1
 unfolding bit
@@ -287,21 +305,3 @@ under-bit j s i h = bit-xor (2 ^ j) s i ∙ ap (λ (k : ℕ). bitXor k (bit s i)
 pub parts-xor : (m x : ℕ) → bitXor (x % 2 ^ m) (x / 2 ^ m * 2 ^ m) ≡ x
 parts-xor m x =
     xor-comm (x % 2 ^ m) (x / 2 ^ m * 2 ^ m) ∙ xor-shifted (x / 2 ^ m) m (x % 2 ^ m) (mod-lt x (pow-pos m)) ∙ split x m
-
-pub bit-shl : (t m i : ℕ) → bit (t * 2 ^ m) (m + i) ≡ bit t i
-unfolding bit
-bit-shl t m i = ap (λ (k : ℕ). k % 2) (sym (shr-shr (t * 2 ^ m) m i) ∙ ap (λ (k : ℕ). k / 2 ^ i) (shl-shr t m))
-
-pub shl-below : (n m t : ℕ) → m ≤ n → t < 2 ^ (n - m) → t * 2 ^ m < 2 ^ n
-shl-below n m t hm h = subst (λ (k : ℕ). t * 2 ^ m < 2 ^ k) (sub-add-cancel hm) (shl-lt (n - m) m h)
-
-pub shr-below : (n m x : ℕ) → m ≤ n → x < 2 ^ n → x / 2 ^ m < 2 ^ (n - m)
-shr-below n m x hm h = shr-lt (n - m) m (subst (λ (k : ℕ). x < 2 ^ k) (sym (sub-add-cancel hm)) h)
-
-pub bit-shr : (x k i : ℕ) → bit (x / 2 ^ k) i ≡ bit x (k + i)
-unfolding bit
-bit-shr x k i = ap (λ (v : ℕ). v % 2) (shr-shr x k i)
-
-pub times-none : (v : ℕ) → times 0 v ≡ 0
-unfolding times
-times-none v = refl

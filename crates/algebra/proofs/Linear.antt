@@ -95,6 +95,15 @@ apply-linear rows = record { none = apply-zero rows; sum = apply-xor rows }
 pub comb-linear : (vs : List ℕ) → Linear (comb vs)
 comb-linear vs = record { none = comb-zero vs; sum = comb-xor vs }
 
+pub linear-after : (f g : ℕ → ℕ) → Linear f → Linear g → Linear (λ x. f (g x))
+linear-after f g lf lg = record { none = ap f (lg .none) ∙ lf .none; sum = λ x y. ap f (lg .sum x y) ∙ lf .sum (g x) (g y) }
+
+pub linear-self : Linear (λ x. x)
+linear-self = record { none = refl; sum = λ x y. refl }
+
+pub lower-linear : (m : ℕ) → Linear (λ v. v / 2 ^ m)
+lower-linear m = record { none = zero-div (2 ^ m); sum = λ x y. xor-shr x y m }
+
 module _ (f : ℕ → ℕ) (l : Linear f) where
   pub linear-times : (d x : ℕ) → f (times d x) ≡ times d (f x)
   unfolding times
@@ -112,17 +121,20 @@ times-pow : (d j : ℕ) → d < 2 → times d (2 ^ j) ≡ d * 2 ^ j
 unfolding times
 times-pow d j = bit-cases (λ (d : ℕ). times d (2 ^ j) ≡ d * 2 ^ j) (sym (zero-mul (2 ^ j))) (sym (one-mul (2 ^ j))) d
 
-pub comb-units : (n j x : ℕ) → x < 2 ^ n → comb (units n j) x ≡ x * 2 ^ j
-unfolding comb units
-comb-units zero j x h = sym (ap (λ (k : ℕ). k * 2 ^ j) (lt-one h) ∙ zero-mul (2 ^ j))
-comb-units (suc n) j x h =
-    ap (bitXor (times (x % 2) (2 ^ j))) (comb-units n (suc j) (x / 2) (half-lt n h))
-    ∙ xor-comm (times (x % 2) (2 ^ j)) (x / 2 * 2 ^ suc j)
+-- its lowest digit, and the others
+pub digit-split : (x j : ℕ) → bitXor (times (x % 2) (2 ^ j)) (x / 2 * 2 ^ suc j) ≡ x * 2 ^ j
+digit-split x j =
+    xor-comm (times (x % 2) (2 ^ j)) (x / 2 * 2 ^ suc j)
     ∙ xor-shifted (x / 2) (suc j) (times (x % 2) (2 ^ j)) (times-lt (suc j) (x % 2) (2 ^ j) (pow-lt (le-refl (suc j))))
     ∙ ap₂ (λ (u v : ℕ). x / 2 * u + v) (pow-suc 2 j ∙ mul-comm (2 ^ j) 2) (times-pow (x % 2) j (digit x))
     ∙ ap (λ (u : ℕ). u + x % 2 * 2 ^ j) (sym (mul-assoc (x / 2) 2 (2 ^ j)))
     ∙ sym (add-mul (x / 2 * 2) (x % 2) (2 ^ j))
     ∙ ap (λ (u : ℕ). u * 2 ^ j) (div-add-mod' x 2)
+
+pub comb-units : (n j x : ℕ) → x < 2 ^ n → comb (units n j) x ≡ x * 2 ^ j
+unfolding comb units
+comb-units zero j x h = sym (ap (λ (k : ℕ). k * 2 ^ j) (lt-one h) ∙ zero-mul (2 ^ j))
+comb-units (suc n) j x h = ap (bitXor (times (x % 2) (2 ^ j))) (comb-units n (suc j) (x / 2) (half-lt n h)) ∙ digit-split x j
 
 pub comb-identity : (n x : ℕ) → x < 2 ^ n → comb (identity n) x ≡ x
 unfolding identity
@@ -174,12 +186,7 @@ comb-one (v ∷ vs) (suc j) =
     (ap (λ (k : ℕ). k / 2) (pow-suc 2 j) ∙ mul-div-cancel (2 ^ j) (lit< tt))
     ∙ comb-one vs j
 
-pub linear-after : (f g : ℕ → ℕ) → Linear f → Linear g → Linear (λ x. f (g x))
-linear-after f g lf lg = record { none = ap f (lg .none) ∙ lf .none; sum = λ x y. ap f (lg .sum x y) ∙ lf .sum (g x) (g y) }
-
-pub linear-self : Linear (λ x. x)
-linear-self = record { none = refl; sum = λ x y. refl }
-
+-- ---- two linear functions that agree at the powers of two agree
 pub linear-ext : (f g : ℕ → ℕ) → Linear f → Linear g → (n : ℕ) → ((j : ℕ) → j < n → f (2 ^ j) ≡ g (2 ^ j)) → (x : ℕ) → x < 2 ^ n → f x ≡ g x
 linear-ext f g lf lg zero h x l = ap f (lt-one l) ∙ lf .none ∙ sym (ap g (lt-one l) ∙ lg .none)
 linear-ext f g lf lg (suc n) h x l =
@@ -189,6 +196,7 @@ linear-ext f g lf lg (suc n) h x l =
     ∙ sym (ap g (q .2) ∙ lg .sum (2 ^ n) (q .0)))
     (top-digit n x l)
 
+-- ---- vectors listed number by number
 pub listed-units : (n k : ℕ) → listed (λ j. 2 ^ j) n k ≡ units n k
 unfolding listed units
 listed-units zero k = refl
@@ -220,6 +228,7 @@ unfolding listed comb
 map-zero f g zero k x h = refl
 map-zero f g (suc n) k x h = ap₂ bitXor (ap (times (x % 2)) (h k) ∙ times-zero (x % 2)) (map-zero f g n (suc k) (x / 2) h)
 
+-- ---- sums over a part of the list, and over two lists
 pub comb-take : (m : ℕ) (cols : List ℕ) (s : ℕ) → s < 2 ^ m → comb (take m cols) s ≡ comb cols s
 unfolding comb
 comb-take zero cols s h = sym (ap (comb cols) (lt-one h) ∙ comb-zero cols)
@@ -232,9 +241,6 @@ comb-drop zero cols t = ap (comb cols) (sym (mul-one t))
 comb-drop (suc m) [] t = refl
 comb-drop (suc m) (v ∷ vs) t =
     comb-drop m vs t ∙ sym (ap₂ (λ (x y : ℕ). bitXor (times x v) (comb vs y)) (shifted-even t m) (shifted-half t m))
-
-pub lower-linear : (m : ℕ) → Linear (λ v. v / 2 ^ m)
-lower-linear m = record { none = zero-div (2 ^ m); sum = λ x y. xor-shr x y m }
 
 pub comb-append : (u v : List ℕ) (s : ℕ) → comb (u ++ v) s ≡ bitXor (comb u (s % 2 ^ length u)) (comb v (s / 2 ^ length u))
 comb-append u v s =

@@ -17,6 +17,13 @@ le-or-lt m n = go (leb m n) refl
     go true e = inl (leb-true m n e)
     go false e = inr (leb-false m n e)
 
+pub same-or : (j x : ℕ) → (j ≡ x) ⊎ (j ≡ x → ⊥)
+same-or j x = go (eqb j x) refl
+  where
+    go : (b : Bool) → eqb j x ≡ b → (j ≡ x) ⊎ (j ≡ x → ⊥)
+    go true e = inl (eqb-true j x e)
+    go false e = inr (eqb-false j x e)
+
 module _ (p : ℕ → Bool) where
   -- what the search from i over d numbers gives: every number passed over fails, and what is found holds
   pub record Found (d i r : ℕ) : Type 0 where
@@ -87,30 +94,7 @@ module _ (p : ℕ → Bool) where
   unfolding some
   found-lt n e = ltb-true (least p n) n e
 
-pub and-l : (a b : Bool) → a && b ≡ true → a ≡ true
-and-l true b e = refl
-and-l false b e = e
-
-pub and-r : (a b : Bool) → a && b ≡ true → b ≡ true
-and-r true b e = e
-and-r false b e = absurd (false≢true e)
-
-pub and-both : (a b : Bool) → a ≡ true → b ≡ true → a && b ≡ true
-and-both a b p q = rw (p, q)
-
--- a disjunction that fails, part by part
-pub or-l : (a b : Bool) → a || b ≡ false → a ≡ false
-or-l true b e = absurd (true≢false e)
-or-l false b e = refl
-
-pub or-r : (a b : Bool) → a || b ≡ false → b ≡ false
-or-r true b e = absurd (true≢false e)
-or-r false b e = e
-
--- below suc k: below k, or k itself
-pub below-suc : (P : ℕ → Type 0) (k : ℕ) → ((i : ℕ) → i < k → P i) → P k → (i : ℕ) → i < suc k → P i
-below-suc P k f p i h = ⊎-elim (λ (e : i ≡ k). subst P (sym e) p) (λ (l : i < k). f i l) (eq-or-lt-of-le (le-of-suc-le-suc h))
-
+-- tests that agree find the same
 pub some-ext : (p q : ℕ → Bool) (n : ℕ) → ((k : ℕ) → k < n → p k ≡ q k) → some p n ≡ some q n
 some-ext p q n h = go (some p n) refl
   where
@@ -134,12 +118,30 @@ first-lt p n h = go (some p n) refl
     go true e = found-lt p n e
     go false e = h
 
-pub same-or : (j x : ℕ) → (j ≡ x) ⊎ (j ≡ x → ⊥)
-same-or j x = go (eqb j x) refl
-  where
-    go : (b : Bool) → eqb j x ≡ b → (j ≡ x) ⊎ (j ≡ x → ⊥)
-    go true e = inl (eqb-true j x e)
-    go false e = inr (eqb-false j x e)
+-- ---- truth values and numbers
+pub and-l : (a b : Bool) → a && b ≡ true → a ≡ true
+and-l true b e = refl
+and-l false b e = e
+
+pub and-r : (a b : Bool) → a && b ≡ true → b ≡ true
+and-r true b e = e
+and-r false b e = absurd (false≢true e)
+
+pub and-both : (a b : Bool) → a ≡ true → b ≡ true → a && b ≡ true
+and-both a b p q = rw (p, q)
+
+-- a disjunction that fails, part by part
+pub or-l : (a b : Bool) → a || b ≡ false → a ≡ false
+or-l true b e = absurd (true≢false e)
+or-l false b e = refl
+
+pub or-r : (a b : Bool) → a || b ≡ false → b ≡ false
+or-r true b e = absurd (true≢false e)
+or-r false b e = e
+
+-- below suc k: below k, or k itself
+pub below-suc : (P : ℕ → Type 0) (k : ℕ) → ((i : ℕ) → i < k → P i) → P k → (i : ℕ) → i < suc k → P i
+below-suc P k f p i h = ⊎-elim (λ (e : i ≡ k). subst P (sym e) p) (λ (l : i < k). f i l) (eq-or-lt-of-le (le-of-suc-le-suc h))
 
 -- ---- a search from i up to m
 module _ (p : ℕ → Bool) (m i : ℕ) where

@@ -53,7 +53,6 @@ pub phi-lower : (n m : ℕ) (cols : List ℕ) → m ≤ n → map (λ v. v / 2 ^
 unfolding phi
 phi-lower n m cols h = ap (map (λ v. v / 2 ^ m)) (ap (λ (k : ℕ). take k cols) (sub-zero m) ∙ sym (take-take m n cols h))
 
--- ---- places, counted from another
 oneIf-not : (b : Bool) → eqb (oneIf b) 0 ≡ not b
 oneIf-not true = refl
 oneIf-not false = refl

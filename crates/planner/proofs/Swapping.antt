@@ -16,11 +16,9 @@ use Rattle.algebra.proofs.Listed.{listed-same, one-place, room-set, which-all, 
 use Rattle.algebra.proofs.Lists.{all-mono}
 use Rattle.planning.specs.Columns.{phi, placing, zeroColumn}
 use Rattle.planning.specs.Making.{partner, swaps}
-use Rattle.planning.proofs.Snoc.{partner-snoc}
 use Rattle.planner.proofs.Places.{phi-take}
+use Rattle.planning.proofs.Acts.{partner-snoc}
 
--- ---- lists made place by place
--- ---- places in two parts
 -- ---- a list that is longer than the other counts no further
 pub partner-left : (xs ys zs : List ℕ) (j : ℕ) → length xs ≡ length ys → partner (xs ++ zs) ys j ≡ partner xs ys j
 unfolding partner

@@ -2,7 +2,7 @@
 use mathlib.Core.Path.{_∙_, _≡_, ap, refl, subst, sym}
 use mathlib.Core.Bool.{Bool, false, true}
 use mathlib.Core.Logic.{⊎-elim}
-use mathlib.Core.List.{List, [], _∷_}
+use mathlib.Core.List.{List, [], _++_, _∷_}
 use Prim.Native.Nat.{_<_, _^_, _≤_, ℕ}
 use native.Mathlib.Nat.{div-one, zero-add}
 use native.Mathlib.Omega.{arith}
@@ -10,7 +10,7 @@ use lib.Pow.{pow-lt}
 use lib.Dec.{eqb}
 use lib.ListN.{length}
 use lib.Bits.{bitXor, xor-lt, xor-zero-r}
-use borrow.Author.Tests.{eq-eqb, ne-eqb}
+use borrow.Author.Tests.{eq-eqb, eqb-true, ne-eqb}
 use Rattle.algebra.proofs.Digits.{xor-cancel-r}
 use Rattle.algebra.proofs.Linear.{comb-identity, comb-linear, comb-one, comb-xor, comb-zero, linear-comb, linear-ext, listed-lt, listed-units, listed-xor, map-zero, terms-zero}
 use Rattle.algebra.proofs.Listed.{listed-at, listed-length}
@@ -27,7 +27,6 @@ pub comb-after : (a q : List ℕ) (x : ℕ) → comb (after a q) x ≡ comb a (c
 unfolding after
 comb-after a q x = sym (linear-comb (comb a) (comb-linear a) q x)
 
--- ---- lists made column by column
 -- ---- a matrix that adds columns which it does not change undoes itself
 module _ (g : ℕ → ℕ) (n : ℕ) (small : (j : ℕ) → j < n → g j < 2 ^ n) (nil : (j i : ℕ) → times (bit (g j) i) (g i) ≡ 0) where
   abbrev pub G : ℕ → ℕ
@@ -52,7 +51,6 @@ module _ (g : ℕ → ℕ) (n : ℕ) (small : (j : ℕ) → j < n → g j < 2 ^ 
       ∙ ap (bitXor (bitXor x (G x))) (comb-xor (listed g n 0) x (G x) ∙ ap (bitXor (G x)) (twice-zero x) ∙ xor-zero-r (G x))
       ∙ xor-cancel-r x (G x)
 
--- ---- two linear functions that agree at the powers of two agree
 -- ---- a swap of columns undoes itself
 module _ (σ : ℕ → ℕ) (n : ℕ) (stays : (j : ℕ) → j < n → σ j < n) (back : (j : ℕ) → σ (σ j) ≡ j) where
   pub at-unit : (j : ℕ) → j < n → comb (listed (λ j. 2 ^ σ j) n 0) (2 ^ j) ≡ 2 ^ σ j
@@ -129,7 +127,28 @@ partner-back (x ∷ xs) (y ∷ ys) b ax ay hx hy j = step (partner-back xs ys b 
         (λ q. g (sym ih ∙ ap (partner xs ys) q ∙ out-y))
         ∙ ih) (same-or j y)) (same-or j x)
 
--- ---- bits of a shifted number
+-- one more pair that changes places
+pub partner-snoc : (xs ys : List ℕ) (x y j : ℕ) → length xs ≡ length ys → All (λ z. x ≡ z → ⊥) xs → All (λ z. x ≡ z → ⊥) ys → All (λ z. y ≡ z → ⊥) xs → All (λ z. y ≡ z → ⊥) ys
+    → partner (xs ++ (x ∷ [])) (ys ++ (y ∷ [])) j ≡ elim (eqb j x) [ true ↦ y | false ↦ elim (eqb j y) [ true ↦ x | false ↦ partner xs ys j ] ]
+unfolding partner
+partner-snoc [] [] x y j l a b c d = refl
+partner-snoc [] (v ∷ ys) x y j l a b c d = absurd (omega (arith, l))
+partner-snoc (u ∷ xs) [] x y j l a b c d = absurd (omega (arith, l))
+partner-snoc (u ∷ xs) (v ∷ ys) x y j l a b c d =
+    go (eqb j u) (eqb j v) (eqb j x) (eqb j y) refl refl refl refl (partner-snoc xs ys x y j (omega (arith, l)) (a .1) (b .1) (c .1) (d .1))
+  where
+    go : (p q r s : Bool) → eqb j u ≡ p → eqb j v ≡ q → eqb j x ≡ r → eqb j y ≡ s
+        → partner (xs ++ (x ∷ [])) (ys ++ (y ∷ [])) j ≡ elim r [ true ↦ y | false ↦ elim s [ true ↦ x | false ↦ partner xs ys j ] ]
+        → _≡_ {A = ℕ} (elim p [ true ↦ v | false ↦ elim q [ true ↦ u | false ↦ partner (xs ++ (x ∷ [])) (ys ++ (y ∷ [])) j ] ])
+        (elim r [ true ↦ y | false ↦ elim s [ true ↦ x | false ↦ elim p [ true ↦ v | false ↦ elim q [ true ↦ u | false ↦ partner xs ys j ] ] ] ])
+    go false false r s e f g h ih = ih
+    go true q true s e f g h ih = absurd (a .0 (sym (eqb-true j x g) ∙ eqb-true j u e))
+    go true q false true e f g h ih = absurd (c .0 (sym (eqb-true j y h) ∙ eqb-true j u e))
+    go true q false false e f g h ih = refl
+    go false true true s e f g h ih = absurd (b .0 (sym (eqb-true j x g) ∙ eqb-true j v f))
+    go false true false true e f g h ih = absurd (d .0 (sym (eqb-true j y h) ∙ eqb-true j v f))
+    go false true false false e f g h ih = refl
+
 -- ---- more on adding and placing
 module _ (g : ℕ → ℕ) (n : ℕ) where
   pub adding-length : length (adding g n) ≡ n
@@ -148,5 +167,3 @@ module _ (g : ℕ → ℕ) (n : ℕ) where
 pub placing-at : (σ : ℕ → ℕ) (n j : ℕ) → j < n → comb (placing σ n) (2 ^ j) ≡ 2 ^ σ j
 unfolding placing
 placing-at σ n j h = comb-one (listed (λ j. 2 ^ σ j) n 0) j ∙ listed-at 0 (λ j. 2 ^ σ j) n 0 j h ∙ ap (λ (k : ℕ). 2 ^ σ k) (zero-add j)
-
--- ---- lists of places: what each of them passes

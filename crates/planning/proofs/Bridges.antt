@@ -29,7 +29,6 @@ use Rattle.planning.proofs.Step2.{summands-one}
 use Rattle.planning.specs.Columns.{after, delta, phi, zeroColumn}
 use Rattle.planning.specs.Making.{eraser, reached, summands}
 
--- ---- sums over two lists, one after the other
 -- W: the columns of φ that are marked when δ's columns stand to the left of φ's
 pub reached-marked : (n m : ℕ) → m ≤ n → (cols : List ℕ) → length (delta m cols) ≡ n - m → (i : ℕ) → i < m → not (reached n m cols i) ≡ marked (delta m cols ++ phi m cols) (n - m + i)
 reached-marked n m hm cols hl i hi = go (reached n m cols i) refl

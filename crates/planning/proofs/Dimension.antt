@@ -4,17 +4,17 @@ use mathlib.Core.Bool.{Bool, false, true, true≢false}
 use mathlib.Core.Logic.{⊎-elim}
 use mathlib.Core.List.{List, [], _∷_, map}
 use Prim.Native.Nat.{_%_, _*_, _+_, _/_, _<_, _^_, _≤_, suc, zero, ℕ}
-use native.Mathlib.Nat.{add-mul, add-suc, add-zero, div-add-mod', le-refl, mul-assoc, mul-comm, mul-one, one-mul, pow-suc, zero-add, zero-mul}
+use native.Mathlib.Nat.{add-suc, add-zero, mul-one, pow-suc, zero-add, zero-mul}
 use native.Mathlib.Omega.{arith}
 use lib.Arith.{digits-div, digits-lt, digits-mod, lt-one}
 use lib.Pow.{pow-lt, pow-pos}
 use lib.Dec.{eqb}
 use lib.ListN.{length}
-use lib.Bits.{bitXor, xor-comm, xor-lt, xor-self, xor-shifted, xor-zero-r}
+use lib.Bits.{bitXor, xor-lt, xor-self, xor-zero-r}
 use borrow.Author.Tests.{eq-eqb, eqb-true}
 use native.Mathlib.Numerals.{add-one}
-use Rattle.algebra.proofs.Digits.{bin-ext, bit-cases, bit-here, bit-pow, bit-pow-other, bit-suc, bit-times, bit-xor, bit-zero, digit, half-lt, times-lt, times-none, times-one, times-zero, xor-eq}
-use Rattle.algebra.proofs.Linear.{comb-xor}
+use Rattle.algebra.proofs.Digits.{bin-ext, bit-here, bit-pow, bit-pow-other, bit-suc, bit-times, bit-xor, bit-zero, digit, half-lt, times-lt, times-none, times-one, times-zero, xor-eq}
+use Rattle.algebra.proofs.Linear.{comb-xor, digit-split}
 use Rattle.algebra.proofs.Listed.{which-all, which-holds, which-split}
 use Rattle.algebra.proofs.Lists.{All, all-mono}
 use Rattle.algebra.proofs.Pigeon.{pigeon}
@@ -60,18 +60,6 @@ pub powers-lt : (l : List ℕ) (m z : ℕ) → All (λ x. x < m) l → comb (pow
 unfolding comb
 powers-lt [] m z h = pow-pos m
 powers-lt (x ∷ l) m z h = xor-lt m (times (z % 2) (2 ^ x)) (comb (powers l) (z / 2)) (times-lt m (z % 2) (2 ^ x) (pow-lt (h .0))) (powers-lt l m (z / 2) (h .1))
-
-pub digit-split : (x j : ℕ) → bitXor (times (x % 2) (2 ^ j)) (x / 2 * 2 ^ suc j) ≡ x * 2 ^ j
-digit-split x j =
-    xor-comm (times (x % 2) (2 ^ j)) (x / 2 * 2 ^ suc j)
-    ∙ xor-shifted (x / 2) (suc j) (times (x % 2) (2 ^ j)) (times-lt (suc j) (x % 2) (2 ^ j) (pow-lt (le-refl (suc j))))
-    ∙ ap₂ (λ (u v : ℕ). x / 2 * u + v) (pow-suc 2 j ∙ mul-comm (2 ^ j) 2) (times-pow (x % 2) (digit x))
-    ∙ ap (λ (u : ℕ). u + x % 2 * 2 ^ j) (sym (mul-assoc (x / 2) 2 (2 ^ j)))
-    ∙ sym (add-mul (x / 2 * 2) (x % 2) (2 ^ j))
-    ∙ ap (λ (u : ℕ). u * 2 ^ j) (div-add-mod' x 2)
-  where
-    times-pow : (d : ℕ) → d < 2 → times d (2 ^ j) ≡ d * 2 ^ j
-    times-pow = bit-cases (λ (d : ℕ). times d (2 ^ j) ≡ d * 2 ^ j) (times-none (2 ^ j) ∙ sym (zero-mul (2 ^ j))) (unfold times in sym (one-mul (2 ^ j)))
 
 module _ (p : ℕ → Bool) where
   above : (k j : ℕ) → All (λ x. j ≡ x → ⊥) (which p k (suc j))
