@@ -2,13 +2,13 @@
 use mathlib.Core.Path.{_∙_, _≡_, ap, ap₂, refl, subst, sym}
 use Prim.Native.Nat.{_%_, _*_, _+_, _-_, _/_, _<_, _^_, _≤_, suc, suc-le-suc, zero, zero-le, ℕ}
 use native.Mathlib.Numerals.{one-add}
-use native.Mathlib.Nat.{add-mod-mod, div-add-mod', div-eq-of-lt, div-lt-iff-lt-mul, div-one, le-of-suc-le-suc, lt-of-lt-of-le, mod-lt, not-suc-le-zero, pow-suc, zero-div, zero-lt-suc}
+use native.Mathlib.Nat.{add-mod-mod, div-add-mod', div-eq-of-lt, div-lt-iff-lt-mul, div-one, eq-or-lt-of-le, le-of-suc-le-suc, le-refl, lt-of-lt-of-le, mod-lt, not-suc-le-zero, one-mul, pow-suc, sub-add-cancel, zero-div, zero-lt-suc}
 use native.Mathlib.Omega.{arith}
 use lib.Arith.{bin-ind, digits-div, digits-mod, half-le, lt-one}
-use lib.Pow.{pow-mono, pow-pos, shr-shr}
-use lib.Bits.{and-comm, and-mod, and-shr, bitAnd, bitXor, xor-comm, xor-lt, xor-mod, xor-self, xor-shr, xor-zero-r}
+use lib.Pow.{pow-lt, pow-mono, pow-pos, shl-lt, shl-shr, shr-lt, shr-shr, split}
+use lib.Bits.{and-comm, and-mod, and-shr, bitAnd, bitXor, shifted-even, shifted-half, xor-comm, xor-lt, xor-mod, xor-self, xor-shifted, xor-shr, xor-zero-r}
 use lib.Count.{ones, ones-step}
-use mathlib.Core.Logic.{_⊎_, ⊎-elim}
+use mathlib.Core.Logic.{_⊎_, inl, inr, ⊎-elim}
 use Rattle.algebra.proofs.Search.{le-or-lt}
 use Rattle.algebra.specs.Vector.{bit, parity, times}
 
@@ -58,10 +58,10 @@ on-digits P a b c d e f g h x y z hx hy hz =
     x hx
 
 -- ---- xor
-xor-half : (a b : ℕ) → bitXor a b / 2 ≡ bitXor (a / 2) (b / 2)
+pub xor-half : (a b : ℕ) → bitXor a b / 2 ≡ bitXor (a / 2) (b / 2)
 xor-half a b = xor-shr a b 1
 
-xor-odd : (a b : ℕ) → bitXor a b % 2 ≡ bitXor (a % 2) (b % 2)
+pub xor-odd : (a b : ℕ) → bitXor a b % 2 ≡ bitXor (a % 2) (b % 2)
 xor-odd a b = xor-mod a b 1
 
 and-half : (a b : ℕ) → bitAnd a b / 2 ≡ bitAnd (a / 2) (b / 2)
@@ -145,6 +145,14 @@ unfolding times
 times-zero zero = refl
 times-zero (suc d) = refl
 
+pub times-no : (d v : ℕ) → d ≡ 0 → times d v ≡ 0
+unfolding times
+times-no d v e = ap (λ (k : ℕ). times k v) e
+
+pub times-none : (v : ℕ) → times 0 v ≡ 0
+unfolding times
+times-none v = refl
+
 pub times-xor : (d u v : ℕ) → times d (bitXor u v) ≡ bitXor (times d u) (times d v)
 unfolding times
 times-xor zero u v = refl
@@ -220,11 +228,14 @@ pub times-one : (d : ℕ) → d < 2 → times d 1 ≡ d
 unfolding times
 times-one = bit-cases (λ (d : ℕ). times d 1 ≡ d) refl refl
 
+-- no bit above the top
+pub bit-above : (x m i : ℕ) → x < 2 ^ m → m ≤ i → bit x i ≡ 0
+unfolding bit
+bit-above x m i h l = ap (λ (k : ℕ). k % 2) (div-eq-of-lt (lt-of-lt-of-le h (pow-mono l)))
+
 -- a set bit of a number below 2 ^ n stands below n
 pub bit-place : (n x i : ℕ) → x < 2 ^ n → bit x i ≡ 1 → i < n
-unfolding bit
-bit-place n x i h e =
-    ⊎-elim (λ (l : n ≤ i). absurd (let z : _≡_ {A = ℕ} 0 1 = sym (ap (λ (k : ℕ). k % 2) (div-eq-of-lt (lt-of-lt-of-le h (pow-mono l)))) ∙ e in omega arith)) (λ l. l) (le-or-lt n i)
+bit-place n x i h e = ⊎-elim (λ (l : n ≤ i). absurd (let z : _≡_ {A = ℕ} 0 1 = sym (bit-above x n i h l) ∙ e in omega arith)) (λ l. l) (le-or-lt n i)
 
 -- a number with no bit set is zero
 pub bits-zero : (n x : ℕ) → x < 2 ^ n → ((i : ℕ) → i < n → bit x i ≡ 0) → x ≡ 0
@@ -236,3 +247,61 @@ bits-zero (suc n) x h f =
 -- ---- numbers with the same bits
 pub bits-same : (n x y : ℕ) → x < 2 ^ n → y < 2 ^ n → ((i : ℕ) → i < n → bit x i ≡ bit y i) → x ≡ y
 bits-same n x y hx hy e = xor-eq x y (bits-zero n (bitXor x y) (xor-lt n x y hx hy) (λ i l. bit-xor x y i ∙ ap (λ (k : ℕ). bitXor k (bit y i)) (e i l) ∙ xor-self (bit y i)))
+
+-- ---- shifted numbers
+pub bit-shifted : (t m i : ℕ) → i < m → bit (t * 2 ^ m) i ≡ 0
+bit-shifted t zero i h = absurd (not-suc-le-zero h)
+bit-shifted t (suc m) zero h = bit-here (t * 2 ^ suc m) ∙ shifted-even t m
+bit-shifted t (suc m) (suc i) h = bit-suc (t * 2 ^ suc m) i ∙ ap (λ (k : ℕ). bit k i) (shifted-half t m) ∙ bit-shifted t m i (le-of-suc-le-suc h)
+
+pub bit-shl : (t m i : ℕ) → bit (t * 2 ^ m) (m + i) ≡ bit t i
+unfolding bit
+bit-shl t m i = ap (λ (k : ℕ). k % 2) (sym (shr-shr (t * 2 ^ m) m i) ∙ ap (λ (k : ℕ). k / 2 ^ i) (shl-shr t m))
+
+pub bit-shr : (x k i : ℕ) → bit (x / 2 ^ k) i ≡ bit x (k + i)
+unfolding bit
+bit-shr x k i = ap (λ (v : ℕ). v % 2) (shr-shr x k i)
+
+pub shl-below : (n m t : ℕ) → m ≤ n → t < 2 ^ (n - m) → t * 2 ^ m < 2 ^ n
+shl-below n m t hm h = subst (λ (k : ℕ). t * 2 ^ m < 2 ^ k) (sub-add-cancel hm) (shl-lt (n - m) m h)
+
+pub shr-below : (n m x : ℕ) → m ≤ n → x < 2 ^ n → x / 2 ^ m < 2 ^ (n - m)
+shr-below n m x hm h = shr-lt (n - m) m (subst (λ (k : ℕ). x < 2 ^ k) (sym (sub-add-cancel hm)) h)
+
+-- ---- powers of two, and numbers over and under them
+-- 2 ^ j over a number below it
+pub top-xor : (j s : ℕ) → s < 2 ^ j → bitXor (2 ^ j) s ≡ 2 ^ j + s
+top-xor j s h = subst (λ (k : ℕ). bitXor k s ≡ k + s) (one-mul (2 ^ j)) (xor-shifted 1 j s h)
+
+-- the highest digit of j + 1: not set, or set over a smaller number
+pub top-digit : (j z : ℕ) → z < 2 ^ suc j → (z < 2 ^ j) ⊎ ((s : ℕ) × (s < 2 ^ j) × (z ≡ bitXor (2 ^ j) s))
+top-digit j z h =
+    let d : 2 ^ suc j ≡ 2 ^ j * 2 = pow-suc 2 j in
+    ⊎-elim
+    (λ (l : 2 ^ j ≤ z). inr (z - 2 ^ j, omega arith, sym (top-xor j (z - 2 ^ j) (omega arith) ∙ omega arith)))
+    (λ (l : z < 2 ^ j). inl l)
+    (le-or-lt (2 ^ j) z)
+
+pub bit-pow : (j : ℕ) → bit (2 ^ j) j ≡ 1
+unfolding bit
+bit-pow j = ap (λ (k : ℕ). k % 2) (ap (λ (k : ℕ). k / 2 ^ j) (sym (one-mul (2 ^ j))) ∙ shl-shr 1 j)
+
+pub bit-pow-low : (j i : ℕ) → i < j → bit (2 ^ j) i ≡ 0
+bit-pow-low j i h = ap (λ (k : ℕ). bit k i) (sym (one-mul (2 ^ j))) ∙ bit-shifted 1 j i h
+
+pub bit-pow-other : (j i : ℕ) → (i ≡ j → ⊥) → bit (2 ^ j) i ≡ 0
+bit-pow-other j i f =
+    ⊎-elim (λ (l : i < j). bit-pow-low j i l) (λ (l : j < i). bit-above (2 ^ j) (suc j) i (pow-lt (le-refl (suc j))) l)
+    (⊎-elim (λ (l : i ≤ j). ⊎-elim (λ (e : i ≡ j). absurd (f e)) (λ (l : i < j). inl l) (eq-or-lt-of-le l)) (λ (l : j < i). inr l) (le-or-lt i j))
+
+-- 2 ^ j over a smaller number
+pub top-bit : (j s : ℕ) → s < 2 ^ j → bit (bitXor (2 ^ j) s) j ≡ 1
+top-bit j s h = bit-xor (2 ^ j) s j ∙ ap₂ bitXor (bit-pow j) (bit-above s j j h (le-refl j))
+
+pub under-bit : (j s i : ℕ) → i < j → bit (bitXor (2 ^ j) s) i ≡ bit s i
+under-bit j s i h = bit-xor (2 ^ j) s i ∙ ap (λ (k : ℕ). bitXor k (bit s i)) (bit-pow-low j i h)
+
+-- a number is its low part and its high part
+pub parts-xor : (m x : ℕ) → bitXor (x % 2 ^ m) (x / 2 ^ m * 2 ^ m) ≡ x
+parts-xor m x =
+    xor-comm (x % 2 ^ m) (x / 2 ^ m * 2 ^ m) ∙ xor-shifted (x / 2 ^ m) m (x % 2 ^ m) (mod-lt x (pow-pos m)) ∙ split x m

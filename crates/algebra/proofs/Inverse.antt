@@ -61,9 +61,3 @@ module _ (n : ℕ) (rows : List ℕ) (s : singular n rows ≡ false) (h : length
       let t = through n 0 y (omega arith) in
       apply-transpose (map (source n rows 0) (units n 0)) n y (t .0)
       ∙ sym (ap (source n rows 0) (sym (t .1 ∙ comb-identity n y hy)) ∙ source-apply (comb (map (source n rows 0) (units n 0)) y) (t .0))
-
-  pub inverse-left : (x : ℕ) → x < 2 ^ n → apply (inverse n rows) (apply rows x) ≡ x
-  inverse-left x hx = inverse-apply (apply rows x) (lt-of-lt-of-le (apply-lt rows x) (pow-mono h)) ∙ source-apply x hx
-
-  pub inverse-right : (y : ℕ) → y < 2 ^ n → apply rows (apply (inverse n rows) y) ≡ y
-  inverse-right y hy = ap (apply rows) (inverse-apply y hy) ∙ apply-source y hy

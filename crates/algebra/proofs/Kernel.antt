@@ -1,42 +1,53 @@
--- Which is the least vector that a matrix sends to zero? Assumes nothing.
-use mathlib.Core.Path.{_∙_, _≡_, ap, ap₂, subst, sym}
-use mathlib.Core.Bool.{not, true}
-use mathlib.Core.Logic.{_⊎_, inl, inr, ⊎-elim}
+-- Which columns are marked, and when do columns sum to zero in one way only? Assumes nothing.
+use mathlib.Core.Path.{_∙_, _≡_, ap, ap₂, sym}
+use mathlib.Core.Bool.{false, not, true}
+use mathlib.Core.Logic.{⊎-elim}
 use mathlib.Core.List.{List}
-use Prim.Native.Nat.{_*_, _+_, _-_, _<_, _^_, _≤_, suc, zero, ℕ}
-use native.Mathlib.Nat.{le-refl, one-mul, pow-suc}
+use Prim.Native.Nat.{_<_, _^_, suc, zero, ℕ}
+use native.Mathlib.Nat.{le-refl, lt-of-lt-of-le}
 use native.Mathlib.Omega.{arith}
 use lib.Arith.{lt-one}
 use lib.Dec.{eqb}
 use lib.ListN.{getD}
-use lib.Bits.{bitXor, xor-lt, xor-self, xor-shifted}
-use borrow.Author.Tests.{eqb-false, not-true}
-use Rattle.algebra.proofs.Digits.{xor-eq}
+use lib.Bits.{bitXor}
+use borrow.Author.Tests.{eq-eqb, eqb-false, eqb-true, ne-eqb, not-false, not-true}
+use lib.Pow.{pow-lt, pow-mono}
+use Rattle.algebra.proofs.Digits.{top-digit, xor-eq}
 use Rattle.algebra.proofs.Linear.{comb-one, comb-xor}
-use Rattle.algebra.proofs.Search.{le-or-lt, none-elim}
-use Rattle.algebra.specs.Matrix.{columns, marked}
-use Rattle.algebra.specs.Search.{least, some}
+use Rattle.algebra.proofs.Search.{none-elim, none-intro, some-elim, some-ext, some-intro}
+use Rattle.algebra.specs.Matrix.{marked}
+use Rattle.algebra.specs.Search.{some}
 use Rattle.algebra.specs.Vector.{comb}
 
--- 2 ^ j over a number below it
-pub top-xor : (j s : ℕ) → s < 2 ^ j → bitXor (2 ^ j) s ≡ 2 ^ j + s
-top-xor j s h = subst (λ (k : ℕ). bitXor k s ≡ k + s) (one-mul (2 ^ j)) (xor-shifted 1 j s h)
-
--- the highest digit of j + 1: not set, or set over a smaller number
-pub top-digit : (j z : ℕ) → z < 2 ^ suc j → (z < 2 ^ j) ⊎ ((s : ℕ) × (s < 2 ^ j) × (z ≡ bitXor (2 ^ j) s))
-top-digit j z h =
-    let d : 2 ^ suc j ≡ 2 ^ j * 2 = pow-suc 2 j in
-    ⊎-elim
-    (λ (l : 2 ^ j ≤ z). inr (z - 2 ^ j, omega arith, sym (top-xor j (z - 2 ^ j) (omega arith) ∙ omega arith)))
-    (λ (l : z < 2 ^ j). inl l)
-    (le-or-lt (2 ^ j) z)
-
+-- ---- marked: no sum of the columns to its left
 pub marked-elim : (cols : List ℕ) (j s : ℕ) → marked cols j ≡ true → s < 2 ^ j → comb cols s ≡ getD cols j 0 → ⊥
 unfolding marked
 marked-elim cols j s m h e =
     eqb-false (comb cols s) (getD cols j 0)
     (none-elim (λ s. eqb (comb cols s) (getD cols j 0)) (2 ^ j) s (not-true (some (λ s. eqb (comb cols s) (getD cols j 0)) (2 ^ j)) m) h) e
 
+pub marked-intro : (part : List ℕ) (j : ℕ) → ((s : ℕ) → s < 2 ^ j → comb part s ≡ getD part j 0 → ⊥) → marked part j ≡ true
+unfolding marked
+marked-intro part j f = ap not (none-intro (λ s. eqb (comb part s) (getD part j 0)) (2 ^ j) (λ s h. ne-eqb (comb part s) (getD part j 0) (f s h)))
+
+pub unmarked-intro : (part : List ℕ) (j s : ℕ) → s < 2 ^ j → comb part s ≡ getD part j 0 → marked part j ≡ false
+unfolding marked
+unmarked-intro part j s h e = ap not (some-intro (λ s. eqb (comb part s) (getD part j 0)) (2 ^ j) s h (eq-eqb (comb part s) (getD part j 0) e))
+
+-- an unmarked column, as the sum of those to its left
+pub unmarked-elim : (cols : List ℕ) (j : ℕ) → marked cols j ≡ false → (s : ℕ) × (s < 2 ^ j) × (comb cols s ≡ getD cols j 0)
+unfolding marked
+unmarked-elim cols j e =
+    let t = some-elim (λ s. eqb (comb cols s) (getD cols j 0)) (2 ^ j) (not-false (some (λ s. eqb (comb cols s) (getD cols j 0)) (2 ^ j)) e) in
+    (t .0, t .1, eqb-true (comb cols (t .0)) (getD cols j 0) (t .2))
+
+pub marked-ext : (f g : List ℕ) (m j : ℕ) → j < m → ((s : ℕ) → s < 2 ^ m → comb f s ≡ comb g s) → marked f j ≡ marked g j
+unfolding marked
+marked-ext f g m j h e =
+    ap not (some-ext (λ s. eqb (comb f s) (getD f j 0)) (λ s. eqb (comb g s) (getD g j 0)) (2 ^ j)
+    (λ k l. ap₂ eqb (e k (lt-of-lt-of-le l (pow-mono (omega arith)))) (sym (comb-one f j) ∙ e (2 ^ j) (pow-lt h) ∙ comb-one g j)))
+
+-- ---- sums
 -- the sum of the columns picked by 2 ^ j over s
 pub comb-top : (cols : List ℕ) (j s : ℕ) → comb cols (bitXor (2 ^ j) s) ≡ bitXor (getD cols j 0) (comb cols s)
 comb-top cols j s = comb-xor cols (2 ^ j) s ∙ ap (λ (k : ℕ). bitXor k (comb cols s)) (comb-one cols j)
@@ -49,19 +60,3 @@ independent cols (suc j) z m h e =
     (λ (t : (s : ℕ) × (s < 2 ^ j) × (z ≡ bitXor (2 ^ j) s)). absurd (marked-elim cols j (t .0) (m j (le-refl (suc j))) (t .1)
     (sym (xor-eq (getD cols j 0) (comb cols (t .0)) (sym (comb-top cols j (t .0)) ∙ ap (comb cols) (sym (t .2)) ∙ e)))))
     (top-digit j z h)
-
--- the first unmarked column, as a sum of those before it, gives the least
-module _ (cols : List ℕ) (j s : ℕ) (m : (i : ℕ) → i < j → marked cols i ≡ true) (h : s < 2 ^ j) (e : comb cols s ≡ getD cols j 0) where
-  pub first-zero : comb cols (bitXor (2 ^ j) s) ≡ 0
-  first-zero = comb-top cols j s ∙ ap (bitXor (getD cols j 0)) e ∙ xor-self (getD cols j 0)
-
-  pub first-least : (z : ℕ) → 0 < z → z < bitXor (2 ^ j) s → comb cols z ≡ 0 → ⊥
-  first-least z p l f =
-      let d : 2 ^ suc j ≡ 2 ^ j * 2 = pow-suc 2 j in
-      let q : bitXor (2 ^ j) s ≡ 2 ^ j + s = top-xor j s h in
-      ⊎-elim (λ (g : z < 2 ^ j). omega (arith, independent cols j z m g f))
-      (λ (t : (s : ℕ) × (s < 2 ^ j) × (z ≡ bitXor (2 ^ j) s)).
-      let same : comb cols (t .0) ≡ getD cols j 0 = sym (xor-eq (getD cols j 0) (comb cols (t .0)) (sym (comb-top cols j (t .0)) ∙ ap (comb cols) (sym (t .2)) ∙ f)) in
-      let o : bitXor (t .0) s ≡ 0 = independent cols j (bitXor (t .0) s) m (xor-lt j (t .0) s (t .1) h) (comb-xor cols (t .0) s ∙ ap₂ bitXor same e ∙ xor-self (getD cols j 0)) in
-      omega (arith, t .2, ap (bitXor (2 ^ j)) (xor-eq (t .0) s o)))
-      (top-digit j z (omega arith))

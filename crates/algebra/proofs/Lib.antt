@@ -1,5 +1,7 @@
 pub mod Digits
 pub mod Search
+pub mod Lists
+pub mod Listed
 pub mod Linear
 pub mod Singular
 pub mod Pigeon

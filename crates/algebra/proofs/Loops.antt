@@ -2,7 +2,7 @@
 use mathlib.Core.Path.{_∙_, _≡_, ap, ap₂, refl, sym}
 use mathlib.Core.List.{List, [], _∷_}
 use Prim.Native.Nat.{_%_, _*_, _+_, _-_, _/_, _<_, _^_, _≤_, suc, zero, ℕ}
-use native.Mathlib.Nat.{div-eq-of-lt, le-of-suc-le-suc, lt-of-lt-of-le, not-suc-le-zero}
+use native.Mathlib.Nat.{le-of-suc-le-suc, lt-of-lt-of-le, not-suc-le-zero}
 use native.Mathlib.Numerals.{add-one, sub-one}
 use native.Mathlib.Omega.{arith}
 use lib.Pow.{pow-mono}
@@ -13,7 +13,7 @@ use lib.ListN.{drop, drop-of-length-le, getD, length-drop, length-take, set, tak
 use mathlib.Core.Bool.{Bool}
 use lib.Count.{trailingZeros}
 use borrow.Author.Tests.{eq-eqb, ne-eqb}
-use Rattle.algebra.proofs.Digits.{times-zero, xor-assoc}
+use Rattle.algebra.proofs.Digits.{bit-above, times-no, times-zero, xor-assoc}
 use Rattle.algebra.proofs.Linear.{apply-lt}
 use Rattle.algebra.specs.Elimination.{Echelon, choose, grown, rest, used, withEntry}
 use Rattle.algebra.specs.Matrix.{apply}
@@ -73,8 +73,7 @@ rest-start ws qs v = refl
 
 -- a bit past the top is not set
 pub bit-past : (v q : ℕ) → v < 2 ^ 32 → 32 ≤ q → 0 ≡ bit v q
-unfolding bit
-bit-past v q h l = sym (ap (λ (k : ℕ). k % 2) (div-eq-of-lt (lt-of-lt-of-le h (pow-mono l))))
+bit-past v q h l = sym (bit-above v 32 q h l)
 
 pub times-not : (d w : ℕ) → (d ≡ 0 → ⊥) → w ≡ times d w
 unfolding times
@@ -82,8 +81,7 @@ times-not zero w f = absurd (f refl)
 times-not (suc d) w f = refl
 
 pub times-nil : (d w : ℕ) → d ≡ 0 → 0 ≡ times d w
-unfolding times
-times-nil d w e = sym (ap (λ (k : ℕ). times k w) e)
+times-nil d w e = sym (times-no d w e)
 
 -- ---- one column more
 pub grown-skip : (b : Echelon) (j col l : ℕ) → l ≡ rest (b .vectors) (b .pivots) (b .count) col → l ≡ 0 → b ≡ grown b j col

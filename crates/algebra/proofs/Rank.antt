@@ -1,9 +1,9 @@
 -- How does the rank tell a singular matrix? Assumes nothing.
 use mathlib.Core.Path.{_∙_, _≡_, refl, sym}
 use mathlib.Core.Bool.{Bool, false, true}
-use mathlib.Core.Logic.{_⊎_, ⊎-elim}
+use mathlib.Core.Logic.{⊎-elim}
 use mathlib.Core.List.{List}
-use Prim.Native.Nat.{_+_, _-_, _<_, _≤_, suc, zero, zero-le, ℕ}
+use Prim.Native.Nat.{_+_, _<_, _≤_, suc, zero, zero-le, ℕ}
 use native.Mathlib.Nat.{le-antisymm, le-refl, not-suc-le-zero}
 use native.Mathlib.Omega.{arith}
 use lib.Dec.{ltb}

@@ -1,13 +1,14 @@
 -- What does a bounded search find? Assumes nothing.
-use mathlib.Core.Path.{_∙_, _≡_, refl, subst, sym}
+use mathlib.Core.Path.{_∙_, _≡_, ap, refl, subst, sym}
 use mathlib.Core.Bool.{Bool, _&&_, _||_, false, false≢true, true, true≢false}
 use mathlib.Core.Logic.{_⊎_, inl, inr, ⊎-elim}
-use Prim.Native.Nat.{_+_, _<_, _≤_, suc, zero, ℕ}
+use Prim.Native.Nat.{_+_, _-_, _<_, _≤_, suc, zero, ℕ}
 use native.Mathlib.Nat.{add-suc, eq-or-lt-of-le, le-antisymm, le-of-suc-le-suc, le-refl}
 use native.Mathlib.Omega.{arith}
-use lib.Dec.{leb}
-use borrow.Author.Tests.{le-ltb, leb-false, leb-true, lt-ltb, ltb-false, ltb-true}
-use Rattle.algebra.specs.Search.{least, leastFrom, some}
+use lib.Dec.{eqb, leb}
+use borrow.Author.Tests.{eqb-false, eqb-true, le-ltb, leb-false, leb-true, lt-ltb, ltb-false, ltb-true}
+use native.Mathlib.Numerals.{add-one}
+use Rattle.algebra.specs.Search.{firstOf, least, leastFrom, some}
 
 pub le-or-lt : (m n : ℕ) → (m ≤ n) ⊎ (n < m)
 le-or-lt m n = go (leb m n) refl
@@ -15,6 +16,13 @@ le-or-lt m n = go (leb m n) refl
     go : (b : Bool) → leb m n ≡ b → (m ≤ n) ⊎ (n < m)
     go true e = inl (leb-true m n e)
     go false e = inr (leb-false m n e)
+
+pub same-or : (j x : ℕ) → (j ≡ x) ⊎ (j ≡ x → ⊥)
+same-or j x = go (eqb j x) refl
+  where
+    go : (b : Bool) → eqb j x ≡ b → (j ≡ x) ⊎ (j ≡ x → ⊥)
+    go true e = inl (eqb-true j x e)
+    go false e = inr (eqb-false j x e)
 
 module _ (p : ℕ → Bool) where
   -- what the search from i over d numbers gives: every number passed over fails, and what is found holds
@@ -86,6 +94,31 @@ module _ (p : ℕ → Bool) where
   unfolding some
   found-lt n e = ltb-true (least p n) n e
 
+-- tests that agree find the same
+pub some-ext : (p q : ℕ → Bool) (n : ℕ) → ((k : ℕ) → k < n → p k ≡ q k) → some p n ≡ some q n
+some-ext p q n h = go (some p n) refl
+  where
+    go : (b : Bool) → some p n ≡ b → b ≡ some q n
+    go true e = let t = some-elim p n e in sym (some-intro q n (t .0) (t .1) (sym (h (t .0) (t .1)) ∙ t .2))
+    go false e = sym (none-intro q n (λ k l. sym (h k l) ∙ none-elim p n k e l))
+
+pub first-found : (p : ℕ → Bool) (n k : ℕ) → k < n → p k ≡ true → p (firstOf p n) ≡ true
+unfolding firstOf
+first-found p n k h e = go (some p n) refl
+  where
+    go : (b : Bool) → some p n ≡ b → p (elim b [ true ↦ least p n | false ↦ 0 ]) ≡ true
+    go true q = least-holds p n (found-lt p n q)
+    go false q = absurd (true≢false (sym e ∙ none-elim p n k q h))
+
+pub first-lt : (p : ℕ → Bool) (n : ℕ) → 0 < n → firstOf p n < n
+unfolding firstOf
+first-lt p n h = go (some p n) refl
+  where
+    go : (b : Bool) → some p n ≡ b → elim b [ true ↦ least p n | false ↦ 0 ] < n
+    go true e = found-lt p n e
+    go false e = h
+
+-- ---- truth values and numbers
 pub and-l : (a b : Bool) → a && b ≡ true → a ≡ true
 and-l true b e = refl
 and-l false b e = e
@@ -109,3 +142,22 @@ or-r false b e = e
 -- below suc k: below k, or k itself
 pub below-suc : (P : ℕ → Type 0) (k : ℕ) → ((i : ℕ) → i < k → P i) → P k → (i : ℕ) → i < suc k → P i
 below-suc P k f p i h = ⊎-elim (λ (e : i ≡ k). subst P (sym e) p) (λ (l : i < k). f i l) (eq-or-lt-of-le (le-of-suc-le-suc h))
+
+-- ---- a search from i up to m
+module _ (p : ℕ → Bool) (m i : ℕ) where
+  pub found-here : i < m → p i ≡ true → i ≡ leastFrom p (m - i) i
+  unfolding leastFrom
+  found-here h e =
+      let more : m - i ≡ suc (m - suc i) = omega arith in
+      sym (ap (λ (d : ℕ). leastFrom p d i) more ∙ ap (λ (b : Bool). elim b [ true ↦ i | false ↦ leastFrom p (m - suc i) (suc i) ]) e)
+
+  pub found-later : i < m → p i ≡ false → leastFrom p (m - i) i ≡ leastFrom p (m - (i + 1)) (i + 1)
+  unfolding leastFrom
+  found-later h e =
+      let more : m - i ≡ suc (m - suc i) = omega arith in
+      ap (λ (d : ℕ). leastFrom p d i) more ∙ ap (λ (b : Bool). elim b [ true ↦ i | false ↦ leastFrom p (m - suc i) (suc i) ]) e
+      ∙ ap (λ (k : ℕ). leastFrom p (m - k) k) (sym (add-one i))
+
+  pub found-none : m ≤ i → i ≡ leastFrom p (m - i) i
+  unfolding leastFrom
+  found-none h = let none : m - i ≡ 0 = omega arith in sym (ap (λ (d : ℕ). leastFrom p d i) none)

@@ -1,9 +1,9 @@
 -- When do two addresses share a target, and which address is the source of one? Assumes nothing.
 use mathlib.Core.Path.{_∙_, _≡_, ap, ap₂, refl, sym}
 use mathlib.Core.Bool.{_&&_, false, true, true≢false}
-use mathlib.Core.Logic.{_⊎_, ⊎-elim}
+use mathlib.Core.Logic.{⊎-elim}
 use mathlib.Core.List.{List}
-use Prim.Native.Nat.{_<_, _^_, zero, ℕ}
+use Prim.Native.Nat.{_<_, _^_, ℕ}
 use native.Mathlib.Nat.{eq-zero-or-pos}
 use native.Mathlib.Omega.{arith}
 use lib.Pow.{pow-pos}

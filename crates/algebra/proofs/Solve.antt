@@ -6,21 +6,18 @@ use Prim.Native.Nat.{_<_, _^_, ℕ}
 use native.Mathlib.Nat.{lt-trans}
 use native.Mathlib.Omega.{arith}
 use lib.Pow.{pow-lt, pow-pos}
-use lib.Dec.{eqb}
 use lib.ListN.{getD}
 use lib.Bits.{bitXor, xor-lt, xor-self}
-use borrow.Author.Tests.{eqb-true, not-false}
 use Rattle.algebra.proofs.Basis.{Basis, solved-zero, used-below}
-use Rattle.algebra.proofs.Digits.{bit-place, bits-zero, xor-cancel-r}
-use Rattle.algebra.proofs.Kernel.{comb-top, first-least, first-zero, independent, top-xor}
+use Rattle.algebra.proofs.Digits.{bit-place, bits-zero, top-xor, xor-cancel-r}
+use Rattle.algebra.proofs.Kernel.{comb-top, independent, unmarked-elim}
 use Rattle.algebra.proofs.Linear.{apply-columns}
 use Rattle.algebra.proofs.Pigeon.{covers}
 use Rattle.algebra.proofs.Pivots.{Pivots, pivots-apart, rest-lt, rest-off}
-use Rattle.algebra.proofs.Search.{least-is, none-intro, some-elim, some-intro}
+use Rattle.algebra.proofs.Search.{none-intro, some-intro}
 use Rattle.algebra.proofs.Singular.{kills-elim, kills-intro, source-target}
 use Rattle.algebra.specs.Elimination.{rest, used}
-use Rattle.algebra.specs.Matrix.{apply, columns, kernel, kills, marked, singular, source, target}
-use Rattle.algebra.specs.Search.{least, some}
+use Rattle.algebra.specs.Matrix.{apply, columns, kills, marked, singular, source, target}
 use Rattle.algebra.specs.Vector.{bit, comb}
 
 -- n pivots leave nothing of a vector of n bits
@@ -30,32 +27,7 @@ full n ws qs p hw y h =
     (λ i l. let t = covers n (λ m. getD qs m 0) (λ m q. bit-place n (getD ws m 0) (getD qs m 0) (hw m q) (p .on m q)) (λ a b q r. pivots-apart ws qs n p a b r q) i l in
     ap (bit (rest ws qs n y)) (sym (t .2)) ∙ rest-off ws qs n p y (t .0) (t .1))
 
--- an unmarked column, as the sum of those to its left
-unmarked-elim : (cols : List ℕ) (j : ℕ) → marked cols j ≡ false → (s : ℕ) × (s < 2 ^ j) × (comb cols s ≡ getD cols j 0)
-unfolding marked
-unmarked-elim cols j e =
-    let t = some-elim (λ s. eqb (comb cols s) (getD cols j 0)) (2 ^ j) (not-false (some (λ s. eqb (comb cols s) (getD cols j 0)) (2 ^ j)) e) in
-    (t .0, t .1, eqb-true (comb cols (t .0)) (getD cols j 0) (t .2))
-
 module _ (n : ℕ) (rows : List ℕ) where
-  -- the first unmarked column's tag is the least kernel vector
-  pub kernel-first : (j s : ℕ) → j < n → ((i : ℕ) → i < j → marked (columns n rows) i ≡ true) → s < 2 ^ j → comb (columns n rows) s ≡ getD (columns n rows) j 0
-      → kernel n rows ≡ bitXor (2 ^ j) s
-  unfolding kernel
-  kernel-first j s hj m h e =
-      let z = bitXor (2 ^ j) s in
-      let small : z < 2 ^ n = xor-lt n (2 ^ j) s (pow-lt hj) (lt-trans h (pow-lt hj)) in
-      least-is (kills rows) (2 ^ n) z small
-      (kills-intro rows z (omega (arith, top-xor j s h, pow-pos j)) (sym (apply-columns n rows z small) ∙ first-zero (columns n rows) j s m h e))
-      (λ y l. go y l (kills rows y) refl)
-    where
-      go : (y : ℕ) → y < bitXor (2 ^ j) s → (b : Bool) → kills rows y ≡ b → b ≡ false
-      go y l true q =
-          let k = kills-elim rows y q in
-          absurd (first-least (columns n rows) j s m h e y (k .0) l
-          (apply-columns n rows y (lt-trans l (xor-lt n (2 ^ j) s (pow-lt hj) (lt-trans h (pow-lt hj)))) ∙ k .1))
-      go y l false q = refl
-
   pub unmarked→singular : (j : ℕ) → j < n → marked (columns n rows) j ≡ false → singular n rows ≡ true
   unfolding singular
   unmarked→singular j hj e =

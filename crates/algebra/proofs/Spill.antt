@@ -1,9 +1,9 @@
 -- When does an elimination show that a pass spills? Assumes nothing.
 use mathlib.Core.Path.{_∙_, _≡_, ap, ap₂, refl, sym}
 use mathlib.Core.Bool.{Bool, _&&_, false, not, true}
-use mathlib.Core.Logic.{_⊎_, ⊎-elim}
+use mathlib.Core.Logic.{⊎-elim}
 use mathlib.Core.List.{List}
-use Prim.Native.Nat.{_-_, _<_, _^_, suc, zero, ℕ}
+use Prim.Native.Nat.{_-_, _<_, _^_, suc, ℕ}
 use native.Mathlib.Nat.{lt-trans}
 use lib.Arith.{lt-one}
 use lib.Pow.{pow-lt}
@@ -11,8 +11,8 @@ use lib.Dec.{eqb}
 use lib.ListN.{drop, getD, take}
 use lib.Bits.{bitXor, xor-lt, xor-self, xor-zero-r}
 use borrow.Author.Tests.{eq-eqb, eqb-true, ne-eqb}
-use Rattle.algebra.proofs.Digits.{xor-eq, xor4}
-use Rattle.algebra.proofs.Kernel.{comb-top, marked-elim, top-digit}
+use Rattle.algebra.proofs.Digits.{top-digit, xor-eq, xor4}
+use Rattle.algebra.proofs.Kernel.{comb-top, marked-elim}
 use Rattle.algebra.proofs.Linear.{apply-columns, apply-xor, apply-zero, comb-xor}
 use Rattle.algebra.proofs.Search.{none-intro, some-intro}
 use Rattle.algebra.specs.Matrix.{apply, columns, marked, spills}

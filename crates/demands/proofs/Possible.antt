@@ -17,6 +17,7 @@ use Rattle.bank.proofs.Limits.{limits→allowed}
 use Rattle.algebra.specs.Search.{some}
 use Rattle.algebra.specs.Matrix.{apply, identity, kills, singular}
 use Rattle.algebra.proofs.Search.{none-intro, le-or-lt}
+use Rattle.algebra.proofs.Lists.{getD-zeros}
 use Rattle.algebra.proofs.Linear.{apply-identity}
 use Rattle.algebra.proofs.Singular.{kills-elim}
 use Rattle.algebra.proofs.Columns.{identity-at, identity-length}
@@ -42,11 +43,6 @@ identity-regular n = none-intro (kills (identity n)) (2 ^ n) (λ z h. go z h (ki
     go z h true e = let k = kills-elim (identity n) z e in absurd (omega (arith, k .0, sym (apply-identity n z h) ∙ k .1))
     go z h false e = refl
 
-zeros-at : (k i : ℕ) → getD {A = ℕ} (replicate k 0) i 0 ≡ 0
-zeros-at zero i = refl
-zeros-at (suc k) zero = refl
-zeros-at (suc k) (suc i) = zeros-at k i
-
 module _ (g : Geometry) (inside : inLimits g ≡ true) where
   n-in : g .n ≤ ROWS
   n-in = limits→allowed g inside .n-high
@@ -64,7 +60,7 @@ module _ (g : Geometry) (inside : inLimits g ≡ true) where
   still-spare : (i : ℕ) → g .n ≤ i → getD (stillOrder g .rows) i 0 ≡ 0
   still-spare i h =
       ap (λ (k : ℕ). getD (identity (g .n) ++ replicate (ROWS - g .n) 0) k 0) (omega (arith, identity-length (g .n)))
-      ∙ getD-append-add (identity (g .n)) (replicate (ROWS - g .n) 0) (i - g .n) 0 ∙ zeros-at (ROWS - g .n) (i - g .n)
+      ∙ getD-append-add (identity (g .n)) (replicate (ROWS - g .n) 0) (i - g .n) 0 ∙ getD-zeros (ROWS - g .n) (i - g .n)
 
   still-form : badForm (stillOrder g) ≡ false
   unfolding badForm strayRow strayComplement spareRow

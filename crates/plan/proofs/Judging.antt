@@ -10,7 +10,7 @@ use lib.Dec.{eqb, leb}
 use lib.ListN.{getD, take, drop}
 use lib.Pow.{pow-add, pow-mono, pow-pos}
 use lib.Seq.{take-take}
-use Rattle.algebra.proofs.Search.{and-both, and-l, and-r}
+use Rattle.algebra.proofs.Search.{and-both, and-l, and-r, some-ext}
 use Rattle.bank.specs.Limits.{ROWS, PASSES}
 use Rattle.bank.specs.Geometry.{inLimits, records}
 use Rattle.bank.specs.declared.Geometry.{Geometry}
@@ -22,7 +22,6 @@ use Rattle.planning.specs.Running.{canRun, countInLimits, singularPass, sound, 
 use Rattle.planning.specs.Stored.{routeOf, storedPass}
 use Rattle.planning.specs.declared.Plan.{Plan}
 use Rattle.planning.proofs.Running.{sound→checked}
-use Rattle.planning.proofs.Step2.{some-ext}
 use Rattle.planning.proofs.Stored.{route-at, route-length, taken-at}
 use Rattle.plan.specs.Total.{totalSteps}
 
@@ -123,11 +122,15 @@ module _ (plan : Plan) (inside : inLimits (plan .geometry) && countInLimits plan
   unfolding totalSteps
   total-inside = rw inside
 
-  -- in powers of two
-  pub total-powers : totalSteps plan ≡ 2 * 2 ^ plan .geometry .n / (2 ^ plan .geometry .b * 2 ^ plan .geometry .d) * plan .count
-  total-powers =
+  -- from N, B, D and the passes
+  pub total-from : (size block drives count : ℕ) → size ≡ 2 ^ plan .geometry .n → block ≡ 2 ^ plan .geometry .b → drives ≡ 2 ^ plan .geometry .d → count ≡ plan .count
+      → 2 * size / (block * drives) * count ≡ totalSteps plan
+  total-from size block drives count is-n is-b is-d is-count =
+      rw (is-n, is-b, is-d, is-count)
+      (sym (
       total-inside
       ∙ unfold total passSteps phases routeOf in ap (λ (k : ℕ). 2 * 2 ^ plan .geometry .n / (2 ^ plan .geometry .b * 2 ^ plan .geometry .d) * k) (route-length plan)
+      ))
 
 module _ (g : Geometry) (k : Allowed g) where
   -- N is small, and so is BD

@@ -13,12 +13,12 @@ use Rattle.planning.specs.Columns.{phi}
 use Rattle.planning.specs.Making.{dividedUp}
 use Rattle.planning.specs.Pass.{Route, performed}
 use Rattle.planning.specs.Running.{canRun, sound}
-use Rattle.planning.specs.Stored.{emptyPlan, planFor, planOf, routeOf}
+use Rattle.planning.specs.Stored.{planFor, planOf, routeOf}
 use Rattle.planning.specs.declared.Plan.{Plan}
 use Rattle.planning.proofs.Made.{made-can-run, made-length, made-performs, made-route, made-sound}
 use Rattle.plan.specs.Answer.{plannedFor}
 use Rattle.plan.specs.declared.make.Planned.{Planned}
-use Rattle.plan.proofs.Answered.{planned-refused, planned-taken}
+use Rattle.plan.proofs.Answered.{planned-taken}
 
 -- ---- an order that is taken
 -- a plan that makes it
@@ -36,9 +36,6 @@ pub record Makes (order : Order) (plan : Plan) : Type 0 where
 
 -- the answer is 0 and such a plan
 module _ (order : Order) (room : length (order .rows) ≡ ROWS) (taken : judgement order ≡ 0) where
-  pub number-accepted : plannedFor order .number ≡ 0
-  number-accepted = ap (λ (a : Planned). a .number) (planned-taken order taken)
-
   pub made-accepted : Makes order (plannedFor order .plan)
   made-accepted = subst (λ (a : Planned). Makes order (a .plan)) (sym (planned-taken order taken)) makes
     where
@@ -57,7 +54,3 @@ module _ (order : Order) (room : length (order .rows) ≡ ROWS) (taken : judgeme
             performs = λ x h. ap (λ (r : Route). performed (r .passes) x) (made-route g A c (k .inside) long (k .regular) below) ∙ made-performs g A c (k .inside) long (k .regular) x h;
             passes = unfold planFor planOf in made-length g A c (k .inside) long (k .regular);
           }
-
--- ---- an order that is refused: its number, and zero everywhere
-pub made-refused : (order : Order) → (judgement order ≡ 0 → ⊥) → plannedFor order ≡ record { number = judgement order; plan = emptyPlan }
-made-refused = planned-refused

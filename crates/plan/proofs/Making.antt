@@ -15,6 +15,7 @@ use Rattle.algebra.specs.Matrix.{columns, identity, product, singular}
 use Rattle.algebra.specs.Vector.{comb}
 use Rattle.algebra.proofs.Columns.{columns-length, identity-at, identity-length}
 use Rattle.algebra.proofs.Linear.{comb-one}
+use Rattle.algebra.proofs.Lists.{All}
 use Rattle.algebra.proofs.Questions.{columns-whole}
 use Rattle.algebra.proofs.Rank.{rank-le}
 use Rattle.planning.specs.Columns.{after, phi}
@@ -22,7 +23,6 @@ use Rattle.planning.specs.Making.{busy, erases, firstAfter, operations, passMat
 use Rattle.planning.specs.Pass.{Pass, complemented}
 use Rattle.planning.specs.Stored.{planFor, planOf}
 use Rattle.planning.specs.declared.Plan.{Plan}
-use Rattle.planning.proofs.Acts.{All}
 use Rattle.planning.proofs.Bridges.{column-after}
 use Rattle.planning.proofs.Made.{complemented-length, made-few}
 use Rattle.planning.proofs.Round.{Sound, next-nonzero, next-sound, nonzero}

@@ -1,77 +1,22 @@
--- What do loops that copy rows leave, and what is a stored route with one pass more? Assumes nothing.
+-- What is a stored route with one pass more? Assumes nothing.
 use mathlib.Core.Path.{_≡_, ap, subst, sym, _∙_}
 use mathlib.Core.List.{List, [], _∷_, _++_}
 use mathlib.Core.Logic.{⊎-elim}
 use Prim.Native.Nat.{ℕ, _+_, _-_, _*_, _/_, _%_, _≤_, _<_}
 use native.Mathlib.Nat.{div-add-mod', eq-or-lt-of-le, mod-lt, mul-le-mul-right, suc-mul}
 use native.Mathlib.Omega.{arith}
-use borrow.Author.Count.{below-more}
 use lib.Arith.{digits-div, digits-lt}
-use lib.ListN.{List·getD-append, List·getD-eq-default, length, getD, getD-replicate, set, take, drop, length-append, length-drop, length-replicate, length-set, replicate}
-use lib.Seq.{ext-getD, getD-append-add, getD-append-seam, getD-set-same, getD-set-other, getD-take, getD-drop, length-paste, length-paste-head, length-take-le, paste}
+use lib.ListN.{List·getD-append, List·getD-eq-default, length, getD, getD-replicate, set, length-append, length-replicate, length-set, replicate}
+use lib.Seq.{ext-getD, getD-append-seam, getD-set-same, getD-set-other, length-paste, paste}
 use Rattle.bank.specs.Limits.{ROWS, PASSES}
 use Rattle.bank.specs.declared.Geometry.{Geometry}
+use Rattle.algebra.proofs.Listed.{listed-length}
+use Rattle.algebra.proofs.Lists.{padded-at, paste-after, paste-before, paste-within}
 use Rattle.algebra.proofs.Search.{le-or-lt}
 use Rattle.planning.specs.Pass.{Pass, passIn}
 use Rattle.planning.specs.Stored.{planOf, storedComplements, storedRows}
-use Rattle.planning.proofs.Acts.{listed-length}
 use Rattle.planning.proofs.Stored.{stored-complement, stored-length, stored-place, stored-row}
 use Rattle.plan.specs.Store.{withPass}
-
--- ---- a part of s, from place o on, copied out one by one
-pub copied-more : (l s : List ℕ) (o i : ℕ) → i < length l → ((k : ℕ) → k < i → getD l k 0 ≡ getD s (o + k) 0)
-    → (k : ℕ) → k < i + 1 → getD (set l i (getD s (o + i) 0)) k 0 ≡ getD s (o + k) 0
-copied-more l s o i h all =
-    below-more (λ (k : ℕ). getD (set l i (getD s (o + i) 0)) k 0 ≡ getD s (o + k) 0) i
-    (λ k b. getD-set-other l i k (getD s (o + i) 0) 0 (λ e. omega arith) ∙ all k b)
-    (getD-set-same l i (getD s (o + i) 0) 0 h)
-
-pub copied-whole : (l s : List ℕ) (o n : ℕ) → o + n ≤ length s → length l ≡ n → ((k : ℕ) → k < n → getD l k 0 ≡ getD s (o + k) 0) → l ≡ take n (drop o s)
-copied-whole l s o n h e all =
-    ext-getD 0 l (take n (drop o s)) (e ∙ sym (length-take-le n (drop o s) (simp length-drop (omega arith))))
-    (λ k b. all k (omega arith) ∙ sym (getD-take n (drop o s) k 0 (omega arith) ∙ getD-drop o s k 0))
-
--- ---- what a list holds after a copy of n elements of s to the place at
-module _ (d s : List ℕ) (at n : ℕ) (room : at + n ≤ length d) (long : n ≤ length s) where
-  pub paste-before : (q : ℕ) → q < at → getD (paste d at s n) q 0 ≡ getD d q 0
-  paste-before q h =
-      let front : length (take at d) ≡ at = length-take-le at d (omega arith) in
-      List·getD-append (take at d ++ take n s) (drop (at + n) d) 0 q (omega (arith, length-paste-head d at s n (omega arith) long))
-      ∙ List·getD-append (take at d) (take n s) 0 q (omega arith)
-      ∙ getD-take at d q 0 h
-
-  pub paste-within : (i : ℕ) → i < n → getD (paste d at s n) (at + i) 0 ≡ getD s i 0
-  paste-within i h =
-      let front : length (take at d) ≡ at = length-take-le at d (omega arith) in
-      List·getD-append (take at d ++ take n s) (drop (at + n) d) 0 (at + i) (omega (arith, length-paste-head d at s n (omega arith) long))
-      ∙ ap (λ (k : ℕ). getD (take at d ++ take n s) (k + i) 0) (sym front)
-      ∙ getD-append-add (take at d) (take n s) i 0
-      ∙ getD-take n s i 0 h
-
-  pub paste-after : (q : ℕ) → at + n ≤ q → getD (paste d at s n) q 0 ≡ getD d q 0
-  paste-after q h =
-      let head : length (take at d ++ take n s) ≡ at + n = length-paste-head d at s n (omega arith) long in
-      let e : length (take at d ++ take n s) + (q - (at + n)) ≡ q = omega arith in
-      let f : at + n + (q - (at + n)) ≡ q = omega arith in
-      ap (λ (k : ℕ). getD (paste d at s n) k 0) (sym e)
-      ∙ getD-append-add (take at d ++ take n s) (drop (at + n) d) (q - (at + n)) 0
-      ∙ getD-drop (at + n) d (q - (at + n)) 0
-      ∙ ap (λ (k : ℕ). getD d k 0) f
-
--- zeros after a list change none of its elements
-pub padded-at : (f : List ℕ) (k i : ℕ) → getD (f ++ replicate k 0) i 0 ≡ getD f i 0
-padded-at f k i =
-    ⊎-elim (λ (h : length f ≤ i). past h) (λ (h : i < length f). List·getD-append f (replicate k 0) 0 i h) (le-or-lt (length f) i)
-  where
-    past : length f ≤ i → getD (f ++ replicate k 0) i 0 ≡ getD f i 0
-    past h =
-        ⊎-elim
-        (λ (l : length f + k ≤ i). List·getD-eq-default (f ++ replicate k 0) 0 (omega (arith, length-append f (replicate k 0), length-replicate {A = ℕ} k 0)))
-        (λ (l : i < length f + k).
-        let e : length f + (i - length f) ≡ i = omega arith in
-        ap (λ (j : ℕ). getD (f ++ replicate k 0) j 0) (sym e) ∙ getD-append-add f (replicate k 0) (i - length f) 0 ∙ getD-replicate k (i - length f) 0 0 (omega arith))
-        (le-or-lt (length f + k) i)
-        ∙ sym (List·getD-eq-default f 0 h)
 
 complements-length : (room : ℕ) (ps : List Pass) → length (storedComplements room ps) ≡ room
 unfolding storedComplements

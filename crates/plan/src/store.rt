@@ -48,7 +48,7 @@ pub fn pass_rows(rows: &[u32; PLACES], p: usize) -> [u32; ROWS]
 }
 
 // The plan with pass p, the last so far.
-pub fn with_pass(plan: Plan, p: usize, rows: [u32; ROWS], complement: u32) -> Plan
+pub(crate) fn with_pass(plan: Plan, p: usize, rows: [u32; ROWS], complement: u32) -> Plan
     requires { ⌜ p < PASSES ⌝ }
     ensures { λ r. ⌜ r ≡ withPass plan p rows complement ⌝ }
 {

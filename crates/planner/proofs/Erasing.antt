@@ -1,7 +1,7 @@
 -- Which columns of E has a loop made so far, and what does the elimination of δ give for the next? Assumes nothing.
 use mathlib.Core.Path.{_∙_, _≡_, ap, ap₂, refl, subst, sym}
 use mathlib.Core.Bool.{Bool, false, true}
-use mathlib.Core.List.{List, _++_, map}
+use mathlib.Core.List.{List, _++_}
 use mathlib.Core.Logic.{⊎-elim}
 use Prim.Native.Nat.{_%_, _*_, _+_, _-_, _/_, _<_, _^_, _≤_, suc, zero, ℕ}
 use native.Mathlib.Nat.{lt-of-lt-of-le, mod-eq-of-lt, zero-mul}
@@ -16,19 +16,16 @@ use Rattle.algebra.specs.Matrix.{identity}
 use Rattle.algebra.specs.Vector.{bit, comb, times}
 use Rattle.algebra.proofs.Basis.{rest-linear}
 use Rattle.algebra.proofs.Built.{built-same}
-use Rattle.algebra.proofs.Digits.{bit-zero}
-use Rattle.algebra.proofs.Linear.{comb-one}
-use Rattle.algebra.proofs.Questions.{drop-take}
+use Rattle.algebra.proofs.Digits.{bit-zero, shr-below}
+use Rattle.algebra.proofs.Linear.{comb-one, listed-units}
+use Rattle.algebra.proofs.Listed.{listed-same, room-set}
 use Rattle.algebra.proofs.Search.{le-or-lt}
 use Rattle.planning.specs.Columns.{adding, delta, phi, zeroColumn}
 use Rattle.planning.specs.Making.{eraser, erases}
-use Rattle.planning.proofs.Acts.{listed-units}
 use Rattle.planning.proofs.Bridges.{eraser-used}
 use Rattle.planning.proofs.Parts.{delta-comb}
 use Rattle.planning.proofs.Round.{Sound, e-high, e-low, e-small, eraser-zero}
-use Rattle.planning.proofs.Step1.{shr-below}
 use Rattle.planner.proofs.Places.{phi-column, phi-take}
-use Rattle.planner.proofs.Swapping.{listed-same, room-set}
 
 -- ---- what an elimination uses for zero: nothing
 pub used-zero : (ws qs ts : List ℕ) (k : ℕ) → used ws qs ts k 0 ≡ 0

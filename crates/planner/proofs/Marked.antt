@@ -10,12 +10,12 @@ use lib.Seq.{take-append-seam}
 use borrow.Author.Tests.{eqb-false, eqb-true}
 use Rattle.algebra.proofs.Basis.{rest→marked, rest→unmarked}
 use Rattle.algebra.proofs.Built.{Built, built-is}
+use Rattle.algebra.proofs.Kernel.{marked-ext}
+use Rattle.algebra.proofs.Linear.{comb-take}
 use Rattle.algebra.proofs.Loops.{times-nil, times-not}
 use Rattle.algebra.specs.Elimination.{Echelon, built, rest}
 use Rattle.algebra.specs.Matrix.{marked, oneIf}
 use Rattle.algebra.specs.Vector.{comb, times}
-use Rattle.planning.proofs.Parts.{comb-take}
-use Rattle.planning.proofs.Step2.{marked-ext}
 
 -- what is left of column j after the columns before it counts as its mark
 pub left-marked : (room : ℕ) (cols : List ℕ) (w : ℕ) → w ≤ 32 → ((i : ℕ) → getD cols i 0 < 2 ^ w) → (j : ℕ) → j ≤ room → (e : Echelon) → e ≡ built room cols j

@@ -1,8 +1,7 @@
 -- Which bits has a set of columns, and what is left of it without the lowest? Assumes nothing.
 use mathlib.Core.Path.{_∙_, _≡_, ap, ap₂, refl, sym}
 use mathlib.Core.Bool.{Bool, _&&_, false, true}
-use mathlib.Core.Logic.{_⊎_, ⊎-elim}
-use mathlib.Core.List.{List, [], _∷_}
+use mathlib.Core.List.{[], _∷_}
 use Prim.Native.Nat.{_%_, _+_, _-_, _/_, _<_, _^_, _≤_, suc, zero, ℕ}
 use native.Mathlib.Nat.{le-refl, le-suc, lt-of-lt-of-le, not-suc-le-zero}
 use native.Mathlib.Numerals.{add-one}
@@ -13,15 +12,12 @@ use lib.Dec.{eqb, ltb}
 use lib.Pow.{pow-lt, pow-mono, pow-pos}
 use borrow.Author.Tests.{le-leb, le-ltb, lt-leb, lt-ltb}
 use Rattle.algebra.proofs.Built.{lowest-on}
-use Rattle.algebra.proofs.Digits.{bit-cases, bit-here, bit-lt, bit-place, bit-suc, bit-times, bit-xor, bit-zero, times-lt, times-zero}
+use Rattle.algebra.proofs.Digits.{bit-above, bit-cases, bit-here, bit-lt, bit-place, bit-pow, bit-pow-other, bit-suc, bit-times, bit-xor, bit-zero, times-lt, times-zero}
+use Rattle.algebra.proofs.Listed.{which-first, which-none}
 use Rattle.algebra.proofs.Loops.{times-nil, times-not}
 use Rattle.algebra.proofs.Search.{below-suc}
 use Rattle.algebra.specs.Matrix.{oneIf}
-use Rattle.algebra.specs.Search.{which}
 use Rattle.algebra.specs.Vector.{bit, times}
-use Rattle.planning.proofs.Acts.{bit-above}
-use Rattle.planning.proofs.Dimension.{which-ext, which-none}
-use Rattle.planning.proofs.Marks.{bit-pow, bit-pow-other}
 use Rattle.planner.specs.Marks.{bare, lowestOf, maskOf, placesOf}
 
 -- ---- the set of those that pass a test
@@ -71,22 +67,6 @@ unfolding trailingZeros
 below-lowest zero n i h = absurd (not-suc-le-zero h)
 below-lowest (suc k) n zero h = bit-here n ∙ low-under (n % 2) (trailingZeros k (n / 2)) 0 h .0
 below-lowest (suc k) n (suc i) h = bit-suc n i ∙ below-lowest k (n / 2) i (let q = low-under (n % 2) (trailingZeros k (n / 2)) (suc i) h .1 in omega arith)
-
--- the first place that passes, and the others
-which-first : (p q : ℕ → Bool) (t k j : ℕ) → j ≤ t → t < j + k → ((i : ℕ) → i < t → p i ≡ false) → p t ≡ true → q t ≡ false → ((i : ℕ) → (i ≡ t → ⊥) → p i ≡ q i)
-    → which p k j ≡ t ∷ which q k j
-unfolding which
-which-first p q t zero j a b low on off other = absurd (omega arith)
-which-first p q t (suc k) j a b low on off other =
-    ⊎-elim
-    (λ (e : j ≡ t).
-    ap₂ (λ (x : Bool) (l : List ℕ). elim x [ true ↦ j ∷ l | false ↦ l ]) (ap p e ∙ on) (which-ext p q k (suc j) (λ i l h. other i (λ s. omega (arith, s))))
-    ∙ ap₂ (λ (x : ℕ) (l : List ℕ). x ∷ l) e (sym (ap (λ (x : Bool). elim x [ true ↦ j ∷ which q k (suc j) | false ↦ which q k (suc j) ]) (ap q e ∙ off))))
-    (λ (l : j < t).
-    ap (λ (x : Bool). elim x [ true ↦ j ∷ which p k (suc j) | false ↦ which p k (suc j) ]) (low j l)
-    ∙ which-first p q t k (suc j) l (omega arith) low on off other
-    ∙ ap (λ (x : List ℕ). t ∷ x) (sym (ap (λ (x : Bool). elim x [ true ↦ j ∷ which q k (suc j) | false ↦ which q k (suc j) ]) (sym (other j (λ s. omega (arith, s))) ∙ low j l))))
-    (native.Mathlib.Nat.eq-or-lt-of-le a)
 
 pub places-none : (k : ℕ) → placesOf k 0 ≡ []
 unfolding placesOf

@@ -12,11 +12,12 @@ use lib.Count.{trailingZeros}
 use lib.Pow.{pow-lt, pow-pos}
 use borrow.Author.Tests.{eq-eqb, ne-eqb}
 use Rattle.algebra.proofs.Digits.{times-lt}
+use Rattle.algebra.proofs.Listed.{which-all, which-no, which-yes}
+use Rattle.algebra.proofs.Lists.{all-mono}
 use Rattle.algebra.proofs.Loops.{times-nil, times-not}
 use Rattle.algebra.specs.Matrix.{oneIf}
 use Rattle.algebra.specs.Search.{which}
 use Rattle.algebra.specs.Vector.{times}
-use Rattle.planning.proofs.Acts.{all-mono, which-all}
 use Rattle.planning.proofs.Step1.{mate-low}
 use Rattle.planning.specs.Making.{mate}
 use Rattle.planner.specs.Marks.{lowestOf, placesOf}
@@ -26,14 +27,6 @@ mate-none : (us : List ℕ) (j : ℕ) → mate us [] j ≡ 0
 unfolding mate
 mate-none [] j = refl
 mate-none (u ∷ us) j = refl
-
-which-yes : (p : ℕ → Bool) (k j : ℕ) → p j ≡ true → which p (suc k) j ≡ j ∷ which p k (suc j)
-unfolding which
-which-yes p k j e = ap (λ (x : Bool). elim x [ true ↦ j ∷ which p k (suc j) | false ↦ which p k (suc j) ]) e
-
-which-no : (p : ℕ → Bool) (k j : ℕ) → p j ≡ false → which p (suc k) j ≡ which p k (suc j)
-unfolding which
-which-no p k j e = ap (λ (x : Bool). elim x [ true ↦ j ∷ which p k (suc j) | false ↦ which p k (suc j) ]) e
 
 mate-here : (us ws : List ℕ) (u w : ℕ) → mate (u ∷ us) (w ∷ ws) u ≡ 2 ^ w
 unfolding mate

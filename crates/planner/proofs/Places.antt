@@ -1,14 +1,12 @@
 -- How does code find the zero columns of φ? Assumes nothing.
 use mathlib.Core.Path.{_∙_, _≡_, ap, sym}
-use mathlib.Core.Bool.{Bool, false, not, true}
+use mathlib.Core.Bool.{false, not, true}
 use mathlib.Core.List.{List, map}
-use Prim.Native.Nat.{_+_, _-_, _/_, _<_, _^_, _≤_, suc, ℕ}
-use native.Mathlib.Numerals.{add-one}
-use native.Mathlib.Omega.{arith}
+use Prim.Native.Nat.{_/_, _<_, _^_, _≤_, ℕ}
 use lib.Dec.{eqb}
 use lib.ListN.{getD, take}
 use lib.Seq.{take-take}
-use Rattle.algebra.specs.Search.{leastFrom, some}
+use Rattle.algebra.specs.Search.{some}
 use Rattle.algebra.proofs.Linear.{comb-one}
 use Rattle.algebra.proofs.Search.{none-intro, some-intro}
 use Rattle.planning.specs.Columns.{phi, zeroColumn}
@@ -38,22 +36,3 @@ module _ (m n : ℕ) (cols : List ℕ) (h : m ≤ n) where
 
   pub busy-no : ((j : ℕ) → j < m → not (zeroColumn (phi m cols) j) ≡ false) → false ≡ busy m (take n cols)
   busy-no f = sym (same ∙ none-intro (λ j. not (zeroColumn (phi m cols) j)) m f)
-
--- ---- a search from i up to m
-module _ (p : ℕ → Bool) (m i : ℕ) where
-  pub found-here : i < m → p i ≡ true → i ≡ leastFrom p (m - i) i
-  unfolding leastFrom
-  found-here h e =
-      let more : m - i ≡ suc (m - suc i) = omega arith in
-      sym (ap (λ (d : ℕ). leastFrom p d i) more ∙ ap (λ (b : Bool). elim b [ true ↦ i | false ↦ leastFrom p (m - suc i) (suc i) ]) e)
-
-  pub found-later : i < m → p i ≡ false → leastFrom p (m - i) i ≡ leastFrom p (m - (i + 1)) (i + 1)
-  unfolding leastFrom
-  found-later h e =
-      let more : m - i ≡ suc (m - suc i) = omega arith in
-      ap (λ (d : ℕ). leastFrom p d i) more ∙ ap (λ (b : Bool). elim b [ true ↦ i | false ↦ leastFrom p (m - suc i) (suc i) ]) e
-      ∙ ap (λ (k : ℕ). leastFrom p (m - k) k) (sym (add-one i))
-
-  pub found-none : m ≤ i → i ≡ leastFrom p (m - i) i
-  unfolding leastFrom
-  found-none h = let none : m - i ≡ 0 = omega arith in sym (ap (λ (d : ℕ). leastFrom p d i) none)

@@ -7,9 +7,10 @@ use lib.ListN.{length, take}
 use lib.Seq.{take-at}
 use Rattle.algebra.specs.Matrix.{product}
 use Rattle.algebra.specs.Search.{which}
+use Rattle.algebra.proofs.Listed.{listed-length}
 use Rattle.planning.specs.Columns.{after, phi, placing, zeroColumn}
 use Rattle.planning.specs.Making.{eraser, erases, partner, swaps}
-use Rattle.planning.proofs.Acts.{adding-length, listed-length}
+use Rattle.planning.proofs.Acts.{adding-length}
 use Rattle.planning.proofs.Step2.{after-length}
 
 pub take-front : (n : ℕ) (array list r : List ℕ) → length list ≡ n → array ≡ list ++ r → take n array ≡ list

@@ -2,28 +2,28 @@
 use mathlib.Core.Path.{_∙_, _≡_, ap, ap₂, refl, subst, sym}
 use mathlib.Core.Bool.{Bool, false, not, true}
 use mathlib.Core.Logic.{⊎-elim}
-use mathlib.Core.List.{List, _++_, _∷_, map}
-use Prim.Native.Nat.{_%_, _+_, _-_, _/_, _<_, _^_, _≤_, suc, zero, ℕ}
-use native.Mathlib.Nat.{add-suc, add-zero, le-refl, sub-zero, suc-add, zero-add}
+use mathlib.Core.List.{List, _++_, map}
+use Prim.Native.Nat.{_+_, _-_, _/_, _<_, _^_, _≤_, ℕ}
+use native.Mathlib.Nat.{add-zero, le-refl, sub-zero, zero-add}
 use native.Mathlib.Omega.{arith}
 use lib.Bits.{bitXor}
 use lib.Dec.{eqb}
 use lib.ListN.{List·getD-append, List·getD-eq-default, drop, getD, length, length-append, length-replicate, replicate, take}
 use lib.Seq.{take-at, take-take}
-use lib.Pow.{pow-pos, shr-shr}
+use lib.Pow.{pow-pos}
 use Rattle.algebra.proofs.Built.{built-same}
 use Rattle.algebra.proofs.Columns.{columns-length}
+use Rattle.algebra.proofs.Digits.{bit-shr}
 use Rattle.algebra.proofs.Linear.{comb-one}
+use Rattle.algebra.proofs.Listed.{which-ext, which-shift, which-skip}
 use Rattle.algebra.proofs.Loops.{times-nil, times-not}
-use Rattle.algebra.proofs.Questions.{drop-take}
 use Rattle.algebra.proofs.Search.{le-or-lt}
 use Rattle.algebra.specs.Elimination.{Echelon, built, used}
 use Rattle.algebra.specs.Matrix.{columns, marked, oneIf, product}
 use Rattle.algebra.specs.Search.{which}
 use Rattle.algebra.specs.Vector.{bit, times}
-use Rattle.planning.proofs.Acts.{adding-at, adding-length, listed-length}
+use Rattle.planning.proofs.Acts.{adding-at, adding-length}
 use Rattle.planning.proofs.Bridges.{reached-marked, summands-used}
-use Rattle.planning.proofs.Dimension.{which-ext}
 use Rattle.planning.proofs.Step2.{after-length, summands-high, summands-marked}
 use Rattle.planning.specs.Columns.{adding, after, delta, phi}
 use Rattle.planning.specs.Making.{chosen, mate, operations, reached, step1, step2, summands, unmarked}
@@ -52,30 +52,6 @@ module _ (room k : ℕ) (array list : List ℕ) (fits : k ≤ room) (long : leng
 pub phi-lower : (n m : ℕ) (cols : List ℕ) → m ≤ n → map (λ v. v / 2 ^ m) (take (m - 0) (drop 0 cols)) ≡ phi m (take n cols)
 unfolding phi
 phi-lower n m cols h = ap (map (λ v. v / 2 ^ m)) (ap (λ (k : ℕ). take k cols) (sub-zero m) ∙ sym (take-take m n cols h))
-
--- ---- places, counted from another
-which-skip : (q : ℕ → Bool) (k a j : ℕ) → ((i : ℕ) → j ≤ i → i < j + a → q i ≡ false) → which q (k + a) j ≡ which q k (j + a)
-unfolding which
-which-skip q k zero j h = ap₂ (which q) (add-zero k) (sym (add-zero j))
-which-skip q k (suc a) j h =
-    ap (λ (c : ℕ). which q c j) (add-suc k a)
-    ∙ ap (λ (x : Bool). elim x [ true ↦ j ∷ which q (k + a) (suc j) | false ↦ which q (k + a) (suc j) ]) (h j (le-refl j) (omega arith))
-    ∙ which-skip q k a (suc j) (λ i l u. h i (omega arith) (omega arith)) ∙ ap (which q k) (suc-add j a ∙ sym (add-suc j a))
-
-which-shift : (q : ℕ → Bool) (m k j : ℕ) → which q k (m + j) ≡ map (λ u. m + u) (which (λ u. q (m + u)) k j)
-unfolding which
-which-shift q m zero j = refl
-which-shift q m (suc k) j = go (q (m + j)) (ap (which q k) (sym (add-suc m j)) ∙ which-shift q m k (suc j))
-  where
-    go : (b : Bool) → which q k (suc (m + j)) ≡ map (λ u. m + u) (which (λ u. q (m + u)) k (suc j))
-        → _≡_ {A = List ℕ} (elim b [ true ↦ (m + j) ∷ which q k (suc (m + j)) | false ↦ which q k (suc (m + j)) ])
-        (map (λ u. m + u) (elim b [ true ↦ j ∷ which (λ u. q (m + u)) k (suc j) | false ↦ which (λ u. q (m + u)) k (suc j) ]))
-    go true e = ap (λ (l : List ℕ). (m + j) ∷ l) e
-    go false e = e
-
-bit-shr : (x k i : ℕ) → bit (x / 2 ^ k) i ≡ bit x (k + i)
-unfolding bit
-bit-shr x k i = ap (λ (v : ℕ). v % 2) (shr-shr x k i)
 
 oneIf-not : (b : Bool) → eqb (oneIf b) 0 ≡ not b
 oneIf-not true = refl

@@ -2,57 +2,22 @@
 use mathlib.Core.Path.{_∙_, _≡_, ap, ap₂, refl, subst, sym}
 use mathlib.Core.Bool.{Bool, false, not, true}
 use mathlib.Core.List.{List, [], _++_, _∷_, append-nil}
-use Prim.Native.Nat.{_+_, _-_, _<_, _^_, _≤_, suc, zero, ℕ}
-use native.Mathlib.Nat.{add-zero, le-of-suc-le-suc, not-suc-le-zero, zero-add}
+use Prim.Native.Nat.{_+_, _-_, _<_, _^_, _≤_, suc, ℕ}
+use native.Mathlib.Nat.{zero-add}
 use native.Mathlib.Numerals.{add-one}
 use native.Mathlib.Omega.{arith}
 use lib.Dec.{eqb}
 use lib.ListN.{length, length-append, replicate, set, take}
-use lib.Seq.{set-append-left}
 use borrow.Author.Tests.{eq-eqb, ne-eqb}
 use Rattle.algebra.specs.Matrix.{identity}
 use Rattle.algebra.specs.Search.{listed, which}
+use Rattle.algebra.proofs.Linear.{listed-units}
+use Rattle.algebra.proofs.Listed.{listed-same, one-place, room-set, which-all, which-append, which-none, which-snoc}
+use Rattle.algebra.proofs.Lists.{all-mono}
 use Rattle.planning.specs.Columns.{phi, placing, zeroColumn}
 use Rattle.planning.specs.Making.{partner, swaps}
-use Rattle.planning.proofs.Acts.{all-mono, listed-length, listed-units, which-all}
-use Rattle.planning.proofs.Dimension.{which-none}
-use Rattle.planning.proofs.Snoc.{one-place, partner-snoc, which-snoc}
 use Rattle.planner.proofs.Places.{phi-take}
-
--- ---- lists made place by place
-pub listed-same : (f g : ℕ → ℕ) (n k : ℕ) → ((j : ℕ) → k ≤ j → j < k + n → f j ≡ g j) → listed f n k ≡ listed g n k
-unfolding listed
-listed-same f g zero k h = refl
-listed-same f g (suc n) k h = ap₂ (λ (x : ℕ) (l : List ℕ). x ∷ l) (h k (omega arith) (omega arith)) (listed-same f g n (suc k) (λ j a b. h j (omega arith) (omega arith)))
-
--- one place stored
-pub listed-set : (f g : ℕ → ℕ) (n k x v : ℕ) → x < n → v ≡ g (k + x) → ((j : ℕ) → k ≤ j → j < k + n → (j ≡ k + x → ⊥) → f j ≡ g j) → set (listed f n k) x v ≡ listed g n k
-unfolding listed
-listed-set f g zero k x v l e h = absurd (not-suc-le-zero l)
-listed-set f g (suc n) k zero v l e h =
-    ap₂ (λ (x : ℕ) (l : List ℕ). x ∷ l) (e ∙ ap g (add-zero k)) (listed-same f g n (suc k) (λ j a b. h j (omega arith) (omega arith) (λ q. omega arith)))
-listed-set f g (suc n) k (suc x) v l e h =
-    let at : k + suc x ≡ suc k + x = omega arith in
-    ap₂ (λ (x : ℕ) (l : List ℕ). x ∷ l) (h k (omega arith) (omega arith) (λ q. omega arith))
-    (listed-set f g n (suc k) x v (le-of-suc-le-suc l) (e ∙ ap g at) (λ j a b c. h j (omega arith) (omega arith) (λ q. c (q ∙ at))))
-
--- .. in an array with room for more
-pub room-set : (f g : ℕ → ℕ) (n x v : ℕ) (r : List ℕ) → x < n → v ≡ g x → ((j : ℕ) → j < n → (j ≡ x → ⊥) → f j ≡ g j) → set (listed f n 0 ++ r) x v ≡ listed g n 0 ++ r
-room-set f g n x v r l e h =
-    set-append-left (listed f n 0) r x v (omega (arith, listed-length f n 0))
-    ∙ ap (λ (t : List ℕ). t ++ r) (listed-set f g n 0 x v l (e ∙ ap g (sym (zero-add x))) (λ j a b c. h j (omega arith) (λ q. c (q ∙ sym (zero-add x)))))
-
--- ---- places in two parts
-pub which-append : (p : ℕ → Bool) (a c j : ℕ) → which p (a + c) j ≡ which p a j ++ which p c (j + a)
-unfolding which
-which-append p zero c j = ap₂ (λ (x y : ℕ). which p x y) (zero-add c) (sym (add-zero j))
-which-append p (suc a) c j =
-    ap (λ (x : ℕ). which p x j) (native.Mathlib.Nat.suc-add a c) ∙ go (p j) (which-append p a c (suc j) ∙ ap (λ (x : ℕ). which p a (suc j) ++ which p c x) (omega arith))
-  where
-    go : (b : Bool) → which p (a + c) (suc j) ≡ which p a (suc j) ++ which p c (j + suc a)
-        → _≡_ {A = List ℕ} (elim b [ true ↦ j ∷ which p (a + c) (suc j) | false ↦ which p (a + c) (suc j) ]) (elim b [ true ↦ j ∷ which p a (suc j) | false ↦ which p a (suc j) ] ++ which p c (j + suc a))
-    go true e = ap (λ (l : List ℕ). j ∷ l) e
-    go false e = e
+use Rattle.planning.proofs.Acts.{partner-snoc}
 
 -- ---- a list that is longer than the other counts no further
 pub partner-left : (xs ys zs : List ℕ) (j : ℕ) → length xs ≡ length ys → partner (xs ++ zs) ys j ≡ partner xs ys j

@@ -14,7 +14,7 @@ use matrix::vector::power;
 use matrix::vector::times;
 
 // The marked ones of the first k columns.
-pub fn marks(cols: [u32; ROWS], k: usize) -> u32
+pub(crate) fn marks(cols: [u32; ROWS], k: usize) -> u32
     requires { ⌜ k ≤ ROWS ⌝ }
     ensures { λ r. ⌜ r ≡ maskOf (marked cols) k ⌝ }
 {
@@ -32,14 +32,14 @@ pub fn marks(cols: [u32; ROWS], k: usize) -> u32
 }
 
 // The lowest of the set alone; nothing, where there is none.
-pub fn lowest_of(set: u32) -> u32
+pub(crate) fn lowest_of(set: u32) -> u32
     ensures { λ r. ⌜ r ≡ lowestOf set ⌝ }
 {
     if set == 0 { 0 } else { power(lowest(set)) }
 }
 
 // 1 where j is one of the columns from..to and not in the set, in which they are numbered from 0 on; 0 elsewhere.
-pub fn bare(set: u32, from: usize, to: usize, j: usize) -> u32
+pub(crate) fn bare(set: u32, from: usize, to: usize, j: usize) -> u32
     requires { ⌜ to ≤ ROWS ⌝ }
     ensures { λ r. ⌜ r ≡ oneIf (bare set from to j) ⌝ }
 {

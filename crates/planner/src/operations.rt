@@ -60,7 +60,7 @@ fn paired(set: u32, n: usize, m: usize) -> [u32; ROWS]
 }
 
 // Step 1 as a matrix, for a matrix of n columns.
-pub fn step1(cols: &[u32; ROWS], n: usize, m: usize) -> [u32; ROWS]
+fn step1(cols: &[u32; ROWS], n: usize, m: usize) -> [u32; ROWS]
     requires { ⌜ (m < n) × (n ≤ ROWS) ⌝ }
     ensures { λ r. ⌜ r ≡ step1 n m (take n (now (cols .entry))) ++ replicate (ROWS - n) 0 ⌝ }
 {
@@ -71,7 +71,7 @@ pub fn step1(cols: &[u32; ROWS], n: usize, m: usize) -> [u32; ROWS]
 }
 
 // Step 2 as a matrix, for a matrix of n columns.
-pub fn step2(cols: &[u32; ROWS], n: usize, m: usize) -> [u32; ROWS]
+fn step2(cols: &[u32; ROWS], n: usize, m: usize) -> [u32; ROWS]
     requires { ⌜ (m < n) × (n ≤ ROWS) ⌝ }
     ensures { λ r. ⌜ r ≡ step2 n m (take n (now (cols .entry))) ++ replicate (ROWS - n) 0 ⌝ }
 {

@@ -61,7 +61,7 @@ fn next_zero(cols: &[u32; ROWS], m: usize, from: usize) -> usize
 }
 
 // S, for a matrix of n columns.
-pub fn swaps(cols: &[u32; ROWS], n: usize, b: usize, m: usize) -> [u32; ROWS]
+fn swaps(cols: &[u32; ROWS], n: usize, b: usize, m: usize) -> [u32; ROWS]
     requires { ⌜ (b < m) × (m < n) × (n ≤ ROWS) ⌝ }
     ensures { λ r. ⌜ r ≡ swaps n b m (take n (now (cols .entry))) ++ replicate (ROWS - n) 0 ⌝ }
 {
@@ -84,7 +84,7 @@ pub fn swaps(cols: &[u32; ROWS], n: usize, b: usize, m: usize) -> [u32; ROWS]
 }
 
 // E, for a matrix of n columns that are swapped already. For a zero column the elimination uses nothing.
-pub fn erases(cols: &[u32; ROWS], n: usize, b: usize, m: usize) -> [u32; ROWS]
+fn erases(cols: &[u32; ROWS], n: usize, b: usize, m: usize) -> [u32; ROWS]
     requires { ⌜ (b < m) × (m < n) × (n ≤ ROWS) × Sound n m (take n (now cols)) ⌝ }
     ensures { λ r. ⌜ r ≡ erases n b m (take n (now (cols .entry))) ++ replicate (ROWS - n) 0 ⌝ }
 {

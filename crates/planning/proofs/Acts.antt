@@ -1,25 +1,24 @@
 -- What do adding, placing and products of columns do? Assumes nothing.
-use mathlib.Core.Path.{_∙_, _≡_, ap, ap₂, refl, subst, sym}
-use mathlib.Core.Bool.{Bool, false, false≢true, true}
-use mathlib.Core.Logic.{_⊎_, inl, inr, ⊎-elim}
-use mathlib.Core.List.{List, [], _∷_, map}
-use Prim.Native.Nat.{_%_, _*_, _+_, _/_, _<_, _^_, _≤_, suc, zero, ℕ}
-use native.Mathlib.Nat.{add-zero, div-eq-of-lt, div-one, le-of-suc-le-suc, le-refl, lt-of-lt-of-le, not-suc-le-zero, zero-add}
-use native.Mathlib.Numerals.{add-one}
+use mathlib.Core.Path.{_∙_, _≡_, ap, refl, subst, sym}
+use mathlib.Core.Bool.{Bool, false, true}
+use mathlib.Core.Logic.{⊎-elim}
+use mathlib.Core.List.{List, [], _++_, _∷_}
+use Prim.Native.Nat.{_<_, _^_, _≤_, ℕ}
+use native.Mathlib.Nat.{div-one, zero-add}
 use native.Mathlib.Omega.{arith}
-use lib.Arith.{lt-one}
-use lib.Pow.{pow-lt, pow-mono, pow-pos, shr-shr}
+use lib.Pow.{pow-lt}
 use lib.Dec.{eqb}
-use lib.ListN.{getD, length}
-use lib.Bits.{bitXor, shifted-even, shifted-half, xor-lt, xor-zero-r}
-use borrow.Author.Tests.{eq-eqb, eqb-false, eqb-true, ne-eqb}
-use Rattle.algebra.proofs.Digits.{bit-here, bit-suc, times-lt, times-xor, times-zero, xor-cancel-r, xor4}
-use Rattle.algebra.proofs.Kernel.{top-digit}
-use Rattle.algebra.proofs.Linear.{Linear, comb-identity, comb-linear, comb-one, comb-xor, comb-zero, linear-comb}
-use Rattle.algebra.proofs.Search.{found-lt, le-or-lt}
+use lib.ListN.{length}
+use lib.Bits.{bitXor, xor-lt, xor-zero-r}
+use borrow.Author.Tests.{eq-eqb, eqb-true, ne-eqb}
+use Rattle.algebra.proofs.Digits.{xor-cancel-r}
+use Rattle.algebra.proofs.Linear.{comb-identity, comb-linear, comb-one, comb-xor, comb-zero, linear-comb, linear-ext, listed-lt, listed-units, listed-xor, map-zero, terms-zero}
+use Rattle.algebra.proofs.Listed.{listed-at, listed-length}
+use Rattle.algebra.proofs.Lists.{All, Asc, all-mono}
+use Rattle.algebra.proofs.Search.{same-or}
 use Rattle.algebra.specs.Matrix.{identity}
-use Rattle.algebra.specs.Search.{firstOf, least, listed, some, which}
-use Rattle.algebra.specs.Vector.{bit, comb, times, units}
+use Rattle.algebra.specs.Search.{listed}
+use Rattle.algebra.specs.Vector.{bit, comb, times}
 use Rattle.planning.specs.Columns.{adding, after, placing}
 use Rattle.planning.specs.Making.{partner}
 
@@ -27,50 +26,6 @@ use Rattle.planning.specs.Making.{partner}
 pub comb-after : (a q : List ℕ) (x : ℕ) → comb (after a q) x ≡ comb a (comb q x)
 unfolding after
 comb-after a q x = sym (linear-comb (comb a) (comb-linear a) q x)
-
--- ---- lists made column by column
-pub listed-units : (n k : ℕ) → listed (λ j. 2 ^ j) n k ≡ units n k
-unfolding listed units
-listed-units zero k = refl
-listed-units (suc n) k = ap (λ (l : List ℕ). 2 ^ k ∷ l) (listed-units n (suc k))
-
-pub listed-xor : (f g : ℕ → ℕ) (n k x : ℕ) → comb (listed (λ j. bitXor (f j) (g j)) n k) x ≡ bitXor (comb (listed f n k) x) (comb (listed g n k) x)
-unfolding listed comb
-listed-xor f g zero k x = refl
-listed-xor f g (suc n) k x =
-    ap₂ bitXor (times-xor (x % 2) (f k) (g k)) (listed-xor f g n (suc k) (x / 2))
-    ∙ xor4 (times (x % 2) (f k)) (times (x % 2) (g k)) (comb (listed f n (suc k)) (x / 2)) (comb (listed g n (suc k)) (x / 2))
-
-pub listed-lt : (g : ℕ → ℕ) (w n k x : ℕ) → ((j : ℕ) → j < k + n → g j < 2 ^ w) → comb (listed g n k) x < 2 ^ w
-unfolding listed comb
-listed-lt g w zero k x h = pow-pos w
-listed-lt g w (suc n) k x h =
-    xor-lt w (times (x % 2) (g k)) (comb (listed g n (suc k)) (x / 2)) (times-lt w (x % 2) (g k) (h k (omega arith)))
-    (listed-lt g w n (suc k) (x / 2) (λ j l. h j (omega arith)))
-
-module _ {A : Type 0} where
-  pub listed-length : (f : ℕ → A) (k j : ℕ) → length (listed f k j) ≡ k
-  unfolding listed
-  listed-length f zero j = refl
-  listed-length f (suc k) j = ap suc (listed-length f k (suc j))
-
-  pub listed-at : (d : A) (f : ℕ → A) (n k i : ℕ) → i < n → getD (listed f n k) i d ≡ f (k + i)
-  unfolding listed
-  listed-at d f zero k i h = absurd (not-suc-le-zero h)
-  listed-at d f (suc n) k zero h = ap f (sym (add-zero k))
-  listed-at d f (suc n) k (suc i) h = listed-at d f n (suc k) i (le-of-suc-le-suc h) ∙ ap f (omega arith)
-
--- a sum whose every term is zero
-pub terms-zero : (g : ℕ → ℕ) (n k y : ℕ) → ((i : ℕ) → times (bit y i) (g i) ≡ 0) → comb (listed g n k) (y / 2 ^ k) ≡ 0
-unfolding listed comb bit
-terms-zero g zero k y h = refl
-terms-zero g (suc n) k y h =
-    ap₂ bitXor (h k) (ap (comb (listed g n (suc k))) (shr-shr y k 1 ∙ ap (λ (j : ℕ). y / 2 ^ j) (add-one k)) ∙ terms-zero g n (suc k) y h)
-
-pub map-zero : (f g : ℕ → ℕ) (n k x : ℕ) → ((j : ℕ) → f (g j) ≡ 0) → comb (map f (listed g n k)) x ≡ 0
-unfolding listed comb
-map-zero f g zero k x h = refl
-map-zero f g (suc n) k x h = ap₂ bitXor (ap (times (x % 2)) (h k) ∙ times-zero (x % 2)) (map-zero f g n (suc k) (x / 2) h)
 
 -- ---- a matrix that adds columns which it does not change undoes itself
 module _ (g : ℕ → ℕ) (n : ℕ) (small : (j : ℕ) → j < n → g j < 2 ^ n) (nil : (j i : ℕ) → times (bit (g j) i) (g i) ≡ 0) where
@@ -96,16 +51,6 @@ module _ (g : ℕ → ℕ) (n : ℕ) (small : (j : ℕ) → j < n → g j < 2 ^ 
       ∙ ap (bitXor (bitXor x (G x))) (comb-xor (listed g n 0) x (G x) ∙ ap (bitXor (G x)) (twice-zero x) ∙ xor-zero-r (G x))
       ∙ xor-cancel-r x (G x)
 
--- ---- two linear functions that agree at the powers of two agree
-pub linear-ext : (f g : ℕ → ℕ) → Linear f → Linear g → (n : ℕ) → ((j : ℕ) → j < n → f (2 ^ j) ≡ g (2 ^ j)) → (x : ℕ) → x < 2 ^ n → f x ≡ g x
-linear-ext f g lf lg zero h x l = ap f (lt-one l) ∙ lf .none ∙ sym (ap g (lt-one l) ∙ lg .none)
-linear-ext f g lf lg (suc n) h x l =
-    ⊎-elim (λ (q : x < 2 ^ n). linear-ext f g lf lg n (λ j p. h j (omega arith)) x q)
-    (λ (q : (s : ℕ) × (s < 2 ^ n) × (x ≡ bitXor (2 ^ n) s)).
-    ap f (q .2) ∙ lf .sum (2 ^ n) (q .0) ∙ ap₂ bitXor (h n (le-refl (suc n))) (linear-ext f g lf lg n (λ j p. h j (omega arith)) (q .0) (q .1))
-    ∙ sym (ap g (q .2) ∙ lg .sum (2 ^ n) (q .0)))
-    (top-digit n x l)
-
 -- ---- a swap of columns undoes itself
 module _ (σ : ℕ → ℕ) (n : ℕ) (stays : (j : ℕ) → j < n → σ j < n) (back : (j : ℕ) → σ (σ j) ≡ j) where
   pub at-unit : (j : ℕ) → j < n → comb (listed (λ j. 2 ^ σ j) n 0) (2 ^ j) ≡ 2 ^ σ j
@@ -124,56 +69,7 @@ module _ (σ : ℕ → ℕ) (n : ℕ) (stays : (j : ℕ) → j < n → σ j < n)
       (record { none = refl; sum = λ x y. refl }) n
       (λ j h. ap (comb (listed (λ j. 2 ^ σ j) n 0)) (at-unit j h) ∙ at-unit (σ j) (stays j h) ∙ ap (λ (k : ℕ). 2 ^ k) (back j))
 
--- ---- lists of places
-module _ {A : Type 0} where
-  abbrev pub All : (A → Type 0) → List A → Type 0
-  All P [] = Unit {0}
-  All P (x ∷ xs) = P x × All P xs
-
-  pub all-at : (d : A) (P : A → Type 0) (xs : List A) → All P xs → (i : ℕ) → i < length xs → P (getD xs i d)
-  all-at d P [] a i h = absurd (not-suc-le-zero h)
-  all-at d P (x ∷ xs) a zero h = a .0
-  all-at d P (x ∷ xs) a (suc i) h = all-at d P xs (a .1) i (le-of-suc-le-suc h)
-
-  pub at-all : (d : A) (P : A → Type 0) (xs : List A) → ((i : ℕ) → i < length xs → P (getD xs i d)) → All P xs
-  at-all d P [] f = tt
-  at-all d P (x ∷ xs) f = (f 0 (omega arith), at-all d P xs (λ i h. f (suc i) (omega arith)))
-
-abbrev pub Asc : List ℕ → Type 0
-Asc [] = Unit {0}
-Asc (x ∷ xs) = All (λ y. x < y) xs × Asc xs
-
-pub all-mono : (P Q : ℕ → Type 0) → ((x : ℕ) → P x → Q x) → (l : List ℕ) → All P l → All Q l
-all-mono P Q f [] h = tt
-all-mono P Q f (x ∷ xs) h = (f x (h .0), all-mono P Q f xs (h .1))
-
-pub which-all : (p : ℕ → Bool) (k j : ℕ) → All (λ x. (j ≤ x) × (x < j + k)) (which p k j)
-unfolding which
-which-all p zero j = tt
-which-all p (suc k) j = go (p j) (all-mono (λ x. (suc j ≤ x) × (x < suc j + k)) (λ x. (j ≤ x) × (x < j + suc k)) (λ x h. (omega (arith, h .0), omega (arith, h .1))) (which p k (suc j)) (which-all p k (suc j)))
-  where
-    go : (b : Bool) → All (λ x. (j ≤ x) × (x < j + suc k)) (which p k (suc j))
-        → All (λ x. (j ≤ x) × (x < j + suc k)) (elim b [ true ↦ j ∷ which p k (suc j) | false ↦ which p k (suc j) ])
-    go true h = ((omega arith, omega arith), h)
-    go false h = h
-
-pub which-asc : (p : ℕ → Bool) (k j : ℕ) → Asc (which p k j)
-unfolding which
-which-asc p zero j = tt
-which-asc p (suc k) j = go (p j) (which-asc p k (suc j)) (all-mono (λ x. (suc j ≤ x) × (x < suc j + k)) (λ x. j < x) (λ x h. h .0) (which p k (suc j)) (which-all p k (suc j)))
-  where
-    go : (b : Bool) → Asc (which p k (suc j)) → All (λ x. j < x) (which p k (suc j)) → Asc (elim b [ true ↦ j ∷ which p k (suc j) | false ↦ which p k (suc j) ])
-    go true h a = (a, h)
-    go false h a = h
-
 -- ---- partners
-pub same-or : (j x : ℕ) → (j ≡ x) ⊎ (j ≡ x → ⊥)
-same-or j x = go (eqb j x) refl
-  where
-    go : (b : Bool) → eqb j x ≡ b → (j ≡ x) ⊎ (j ≡ x → ⊥)
-    go true e = inl (eqb-true j x e)
-    go false e = inr (eqb-false j x e)
-
 module _ (x y : ℕ) (xs ys : List ℕ) where
   pub hit-x : (j : ℕ) → j ≡ x → partner (x ∷ xs) (y ∷ ys) j ≡ y
   unfolding partner
@@ -231,27 +127,27 @@ partner-back (x ∷ xs) (y ∷ ys) b ax ay hx hy j = step (partner-back xs ys b 
         (λ q. g (sym ih ∙ ap (partner xs ys) q ∙ out-y))
         ∙ ih) (same-or j y)) (same-or j x)
 
--- ---- bits of a shifted number
-pub bit-shifted : (t m i : ℕ) → i < m → bit (t * 2 ^ m) i ≡ 0
-bit-shifted t zero i h = absurd (not-suc-le-zero h)
-bit-shifted t (suc m) zero h = bit-here (t * 2 ^ suc m) ∙ shifted-even t m
-bit-shifted t (suc m) (suc i) h = bit-suc (t * 2 ^ suc m) i ∙ ap (λ (k : ℕ). bit k i) (shifted-half t m) ∙ bit-shifted t m i (le-of-suc-le-suc h)
-
-pub bit-above : (x m i : ℕ) → x < 2 ^ m → m ≤ i → bit x i ≡ 0
-unfolding bit
-bit-above x m i h l = ap (λ (k : ℕ). k % 2) (div-eq-of-lt (lt-of-lt-of-le h (pow-mono l)))
-
-pub times-no : (d v : ℕ) → d ≡ 0 → times d v ≡ 0
-unfolding times
-times-no d v e = ap (λ (k : ℕ). times k v) e
-
-pub first-lt : (p : ℕ → Bool) (n : ℕ) → 0 < n → firstOf p n < n
-unfolding firstOf
-first-lt p n h = go (some p n) refl
+-- one more pair that changes places
+pub partner-snoc : (xs ys : List ℕ) (x y j : ℕ) → length xs ≡ length ys → All (λ z. x ≡ z → ⊥) xs → All (λ z. x ≡ z → ⊥) ys → All (λ z. y ≡ z → ⊥) xs → All (λ z. y ≡ z → ⊥) ys
+    → partner (xs ++ (x ∷ [])) (ys ++ (y ∷ [])) j ≡ elim (eqb j x) [ true ↦ y | false ↦ elim (eqb j y) [ true ↦ x | false ↦ partner xs ys j ] ]
+unfolding partner
+partner-snoc [] [] x y j l a b c d = refl
+partner-snoc [] (v ∷ ys) x y j l a b c d = absurd (omega (arith, l))
+partner-snoc (u ∷ xs) [] x y j l a b c d = absurd (omega (arith, l))
+partner-snoc (u ∷ xs) (v ∷ ys) x y j l a b c d =
+    go (eqb j u) (eqb j v) (eqb j x) (eqb j y) refl refl refl refl (partner-snoc xs ys x y j (omega (arith, l)) (a .1) (b .1) (c .1) (d .1))
   where
-    go : (b : Bool) → some p n ≡ b → elim b [ true ↦ least p n | false ↦ 0 ] < n
-    go true e = found-lt p n e
-    go false e = h
+    go : (p q r s : Bool) → eqb j u ≡ p → eqb j v ≡ q → eqb j x ≡ r → eqb j y ≡ s
+        → partner (xs ++ (x ∷ [])) (ys ++ (y ∷ [])) j ≡ elim r [ true ↦ y | false ↦ elim s [ true ↦ x | false ↦ partner xs ys j ] ]
+        → _≡_ {A = ℕ} (elim p [ true ↦ v | false ↦ elim q [ true ↦ u | false ↦ partner (xs ++ (x ∷ [])) (ys ++ (y ∷ [])) j ] ])
+        (elim r [ true ↦ y | false ↦ elim s [ true ↦ x | false ↦ elim p [ true ↦ v | false ↦ elim q [ true ↦ u | false ↦ partner xs ys j ] ] ] ])
+    go false false r s e f g h ih = ih
+    go true q true s e f g h ih = absurd (a .0 (sym (eqb-true j x g) ∙ eqb-true j u e))
+    go true q false true e f g h ih = absurd (c .0 (sym (eqb-true j y h) ∙ eqb-true j u e))
+    go true q false false e f g h ih = refl
+    go false true true s e f g h ih = absurd (b .0 (sym (eqb-true j x g) ∙ eqb-true j v f))
+    go false true false true e f g h ih = absurd (d .0 (sym (eqb-true j y h) ∙ eqb-true j v f))
+    go false true false false e f g h ih = refl
 
 -- ---- more on adding and placing
 module _ (g : ℕ → ℕ) (n : ℕ) where
@@ -271,30 +167,3 @@ module _ (g : ℕ → ℕ) (n : ℕ) where
 pub placing-at : (σ : ℕ → ℕ) (n j : ℕ) → j < n → comb (placing σ n) (2 ^ j) ≡ 2 ^ σ j
 unfolding placing
 placing-at σ n j h = comb-one (listed (λ j. 2 ^ σ j) n 0) j ∙ listed-at 0 (λ j. 2 ^ σ j) n 0 j h ∙ ap (λ (k : ℕ). 2 ^ σ k) (zero-add j)
-
-pub linear-after : (f g : ℕ → ℕ) → Linear f → Linear g → Linear (λ x. f (g x))
-linear-after f g lf lg = record { none = ap f (lg .none) ∙ lf .none; sum = λ x y. ap f (lg .sum x y) ∙ lf .sum (g x) (g y) }
-
-pub linear-self : Linear (λ x. x)
-linear-self = record { none = refl; sum = λ x y. refl }
-
--- ---- lists of places: what each of them passes
-pub which-holds : (p : ℕ → Bool) (k j : ℕ) → All (λ x. p x ≡ true) (which p k j)
-unfolding which
-which-holds p zero j = tt
-which-holds p (suc k) j = go (p j) refl (which-holds p k (suc j))
-  where
-    go : (b : Bool) → p j ≡ b → All (λ x. p x ≡ true) (which p k (suc j)) → All (λ x. p x ≡ true) (elim b [ true ↦ j ∷ which p k (suc j) | false ↦ which p k (suc j) ])
-    go true e h = (e, h)
-    go false e h = h
-
--- what holds of every listed place holds of every place that passes
-pub which-member : (P : ℕ → Type 0) (p : ℕ → Bool) (k j : ℕ) → All P (which p k j) → (i : ℕ) → j ≤ i → i < j + k → p i ≡ true → P i
-unfolding which
-which-member P p zero j h i a b e = absurd (omega arith)
-which-member P p (suc k) j h i a b e = go (p j) refl h (which-member P p k (suc j))
-  where
-    go : (q : Bool) → p j ≡ q → All P (elim q [ true ↦ j ∷ which p k (suc j) | false ↦ which p k (suc j) ])
-        → (All P (which p k (suc j)) → (i : ℕ) → suc j ≤ i → i < suc j + k → p i ≡ true → P i) → P i
-    go true f h ih = ⊎-elim (λ (l : i ≤ j). subst P (omega arith) (h .0)) (λ (l : j < i). ih (h .1) i l (omega arith) e) (le-or-lt i j)
-    go false f h ih = ⊎-elim (λ (l : i ≤ j). absurd (false≢true (sym f ∙ ap p (omega arith) ∙ e))) (λ (l : j < i). ih h i l (omega arith) e) (le-or-lt i j)

@@ -4,7 +4,7 @@ use mathlib.Core.Bool.{false, true≢false}
 use mathlib.Core.Logic.{⊎-elim}
 use mathlib.Core.List.{List, [], _++_, _∷_, map}
 use Prim.Native.Nat.{_%_, _*_, _+_, _-_, _/_, _<_, _^_, _≤_, suc, ℕ}
-use native.Mathlib.Nat.{div-lt-iff-lt-mul, le-refl, lt-of-lt-of-le, mod-lt, mul-comm, mul-suc, pow-suc}
+use native.Mathlib.Nat.{div-eq-of-lt, div-lt-iff-lt-mul, le-antisymm, le-refl, le-trans, lt-of-lt-of-le, mod-lt, mul-comm, mul-suc, pow-suc}
 use native.Mathlib.Omega.{arith}
 use lib.Arith.{digits-div, digits-lt, digits-mod}
 use lib.Pow.{pow-mono, pow-pos}
@@ -12,18 +12,18 @@ use lib.Dec.{lit<}
 use lib.ListN.{drop, length, length-append, length-map, length-take, take}
 use lib.Seq.{take-append-seam}
 use lib.Bits.{bitXor, xor-lt, xor-self, xor-shr, xor-zero-r}
-use Rattle.algebra.proofs.Digits.{xor-assoc, xor-cancel-r, xor-eq}
-use Rattle.algebra.proofs.Linear.{Linear, apply-columns, apply-linear, apply-lt, apply-xor, apply-zero, comb-xor, linear-comb}
+use Rattle.algebra.proofs.Digits.{parts-xor, times-none, xor-assoc, xor-cancel-r, xor-eq}
+use Rattle.algebra.proofs.Linear.{Linear, apply-columns, apply-linear, apply-lt, apply-xor, apply-zero, comb-take, comb-xor, linear-after, linear-comb, lower-linear}
+use Rattle.algebra.proofs.Lists.{All}
 use Rattle.algebra.proofs.Parts.{apply-drop}
 use Rattle.algebra.proofs.Search.{le-or-lt}
 use Rattle.algebra.proofs.Spill.{spill-witness}
 use Rattle.algebra.specs.Matrix.{apply, columns, marked, rank, spills, target}
 use Rattle.algebra.specs.Search.{which}
 use Rattle.algebra.specs.Vector.{comb, times}
-use Rattle.planning.proofs.Acts.{All, linear-after}
-use Rattle.planning.proofs.Dimension.{powers, rank-which, span-le, spread, spread-all, spread-inj, spread-lt, spread-only, times-none}
+use Rattle.planning.proofs.Dimension.{powers, rank-which, span-le, spread, spread-all, spread-inj, spread-lt, spread-only}
 use Rattle.planning.proofs.Marks.{marks-one, marks-span}
-use Rattle.planning.proofs.Parts.{comb-take, lower-linear, parts-xor, phi-comb}
+use Rattle.planning.proofs.Parts.{phi-comb}
 use Rattle.planning.proofs.Round.{shl-linear}
 use Rattle.planning.specs.Columns.{phi}
 use Rattle.planning.specs.Making.{dividedUp}
@@ -71,7 +71,7 @@ module _ (b m : ℕ) (p : List ℕ) (dry : spills b m p ≡ false) where
   -- what the middle rows send to zero, the lower rows do
   through : (z : ℕ) → z < 2 ^ m → apply mid z ≡ 0 → f z ≡ 0
   unfolding f mid
-  through z h e = ⊎-elim (λ (q : apply p z / 2 ^ m ≤ 0). native.Mathlib.Nat.le-antisymm q (omega arith))
+  through z h e = ⊎-elim (λ (q : apply p z / 2 ^ m ≤ 0). le-antisymm q (omega arith))
       (λ (q : 0 < apply p z / 2 ^ m). absurd (true≢false (sym (spill-witness b m p z h e (λ r. omega (arith, q, apply-drop p m z, r))) ∙ dry))) (le-or-lt (apply p z / 2 ^ m) 0)
 
   abbrev picks : List ℕ
@@ -106,7 +106,7 @@ module _ (b m : ℕ) (p : List ℕ) (dry : spills b m p ≡ false) where
       )
     where
       is-spread : (w : ℕ) → comb picks w ≡ spread (marked M) m w
-      is-spread w = unfold Rattle.planning.proofs.Dimension.spread in refl
+      is-spread w = unfold spread in refl
 
 -- ---- passes one after the other
 pub carried : List Pass → ℕ → ℕ
@@ -140,7 +140,7 @@ performed-is (p ∷ ps) x =
 pub passes-span : (b m : ℕ) (ps : List Pass) → All (λ p. spills b m (p .rows) ≡ false) ps
     → (vs : List ℕ) × (length vs ≤ (m - b) * length ps) × ((z : ℕ) → z < 2 ^ m → Within vs (carried ps z / 2 ^ m))
 unfolding carried comb
-passes-span b m [] d = ([], omega arith, λ z h. (0, pow-pos 0, sym (native.Mathlib.Nat.div-eq-of-lt h)))
+passes-span b m [] d = ([], omega arith, λ z h. (0, pow-pos 0, sym (div-eq-of-lt h)))
 passes-span b m (p ∷ ps) d =
     let ih = passes-span b m ps (d .1) in
     let us = vectors b m (p .rows) (d .0) in
@@ -180,7 +180,7 @@ module _ (n b m : ℕ) (hb : b < m) (hm : m ≤ n) (rows : List ℕ) (c : ℕ) (
       let up : (z : ℕ) → z < 2 ^ m → z < 2 ^ n = λ z h. lt-of-lt-of-le h (pow-mono hm) in
       let low : (z : ℕ) → z < 2 ^ m → carried ps z / 2 ^ m ≡ comb F z
       = λ z h. ap (λ (u : ℕ). u / 2 ^ m) (carried-is z (up z h) ∙ sym (apply-columns n rows z (up z h))) ∙ sym (phi-comb m (columns n rows) z h) in
-      native.Mathlib.Nat.le-trans
+      le-trans
       (subst (λ (k : ℕ). k ≤ length (v .0)) (sym (rank-which F m))
       (span-le (length (which (marked F) m 0)) (length (v .0)) (λ z. comb F (spread (marked F) m z)) (comb (v .0))
       (λ z h. let t = v .2 (spread (marked F) m z) (spread-lt (marked F) m z) in (t .0, t .1, t .2 ∙ low (spread (marked F) m z) (spread-lt (marked F) m z)))

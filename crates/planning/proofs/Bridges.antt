@@ -3,49 +3,31 @@ use mathlib.Core.Path.{_∙_, _≡_, ap, ap₂, refl, subst, sym}
 use mathlib.Core.Bool.{Bool, false, not, true, true≢false}
 use mathlib.Core.List.{List, _++_, map}
 use Prim.Native.Nat.{_%_, _*_, _+_, _-_, _/_, _<_, _^_, _≤_, suc, zero, ℕ}
-use native.Mathlib.Nat.{le-refl, le-suc, le-trans, mod-lt}
+use native.Mathlib.Nat.{add-comm, le-refl, le-suc, le-trans, mod-lt, not-suc-le-zero}
 use native.Mathlib.Numerals.{add-one}
 use native.Mathlib.Omega.{arith}
 use lib.Arith.{digits-lt}
-use lib.Pow.{high, low, pow-add, pow-lt, pow-pos, shr-lt}
+use lib.Pow.{high, low, pow-add, pow-pos, shr-lt}
 use lib.Dec.{eqb}
 use lib.ListN.{List·getD-map, getD, length, set}
-use lib.Seq.{drop-append-seam, getD-append-add, getD-set-other, getD-set-same, take-append-seam}
+use lib.Seq.{getD-append-add, getD-set-other, getD-set-same}
 use lib.Bits.{bitXor}
-use borrow.Author.Tests.{eq-eqb, eqb-false, ne-eqb}
+use borrow.Author.Tests.{eqb-false}
 use Rattle.algebra.proofs.Basis.{rest→marked, solved-zero, spanned, used-below}
 use Rattle.algebra.proofs.Built.{Built, built-is}
-use Rattle.algebra.proofs.Digits.{bit-times, bit-zero, times-zero}
-use Rattle.algebra.proofs.Linear.{comb-one, comb-xor, comb-zero}
-use Rattle.algebra.proofs.Search.{below-suc, none-intro, some-intro}
+use Rattle.algebra.proofs.Digits.{bit-pow-other, bit-times, bit-zero, times-zero}
+use Rattle.algebra.proofs.Kernel.{marked-intro, unmarked-intro}
+use Rattle.algebra.proofs.Linear.{comb-append, comb-zero}
+use Rattle.algebra.proofs.Search.{below-suc}
 use Rattle.algebra.specs.Elimination.{Echelon, built, choose, grown, rest, used, withEntry}
 use Rattle.algebra.specs.Matrix.{marked}
-use Rattle.algebra.specs.Search.{listed}
 use Rattle.algebra.specs.Vector.{bit, comb, times}
-use Rattle.planning.proofs.Acts.{adding-at, comb-after, listed-at, placing-at}
-use Rattle.planning.proofs.Marks.{Only, bit-pow-other, only-xor}
-use Rattle.planning.proofs.Parts.{comb-drop, comb-take, parts-xor}
+use Rattle.planning.proofs.Marks.{Only, only-xor}
 use Rattle.planning.proofs.Round.{eraser-one, eraser-right}
 use Rattle.planning.proofs.Step1.{reached-elim, reached-intro}
-use Rattle.planning.proofs.Step2.{G1, G2, operations-sum, summands-one}
-use Rattle.planning.specs.Columns.{adding, after, delta, phi, placing, zeroColumn}
-use Rattle.planning.specs.Making.{chosen, eraser, mate, operations, reached, step1, summands, unmarked}
-
--- ---- sums over two lists, one after the other
-pub comb-append : (u v : List ℕ) (s : ℕ) → comb (u ++ v) s ≡ bitXor (comb u (s % 2 ^ length u)) (comb v (s / 2 ^ length u))
-comb-append u v s =
-    let k = length u in
-    ap (comb (u ++ v)) (sym (parts-xor k s)) ∙ comb-xor (u ++ v) (s % 2 ^ k) (s / 2 ^ k * 2 ^ k)
-    ∙ ap₂ bitXor (sym (comb-take k (u ++ v) (s % 2 ^ k) (mod-lt s (pow-pos k))) ∙ ap (λ (l : List ℕ). comb l (s % 2 ^ k)) (take-append-seam u v))
-    (sym (comb-drop k (u ++ v) (s / 2 ^ k)) ∙ ap (λ (l : List ℕ). comb l (s / 2 ^ k)) (drop-append-seam u v))
-
-pub marked-intro : (part : List ℕ) (j : ℕ) → ((s : ℕ) → s < 2 ^ j → comb part s ≡ getD part j 0 → ⊥) → marked part j ≡ true
-unfolding marked
-marked-intro part j f = ap not (none-intro (λ s. eqb (comb part s) (getD part j 0)) (2 ^ j) (λ s h. ne-eqb (comb part s) (getD part j 0) (f s h)))
-
-pub unmarked-intro : (part : List ℕ) (j s : ℕ) → s < 2 ^ j → comb part s ≡ getD part j 0 → marked part j ≡ false
-unfolding marked
-unmarked-intro part j s h e = ap not (some-intro (λ s. eqb (comb part s) (getD part j 0)) (2 ^ j) s h (eq-eqb (comb part s) (getD part j 0) e))
+use Rattle.planning.proofs.Step2.{summands-one}
+use Rattle.planning.specs.Columns.{after, delta, phi, zeroColumn}
+use Rattle.planning.specs.Making.{eraser, reached, summands}
 
 -- W: the columns of φ that are marked when δ's columns stand to the left of φ's
 pub reached-marked : (n m : ℕ) → m ≤ n → (cols : List ℕ) → length (delta m cols) ≡ n - m → (i : ℕ) → i < m → not (reached n m cols i) ≡ marked (delta m cols ++ phi m cols) (n - m + i)
@@ -64,11 +46,11 @@ reached-marked n m hm cols hl i hi = go (reached n m cols i) refl
     go true e =
         let r = reached-elim n m hm cols i e in
         sym (unmarked-intro (delta m cols ++ phi m cols) (n - m + i) (r .1 * 2 ^ (n - m) + r .0)
-        (subst (λ (k : ℕ). r .1 * 2 ^ (n - m) + r .0 < k) (sym (ap (λ (k : ℕ). 2 ^ k) (native.Mathlib.Nat.add-comm (n - m) i) ∙ pow-add 2 i (n - m))) (digits-lt (r .3) (r .2)))
+        (subst (λ (k : ℕ). r .1 * 2 ^ (n - m) + r .0 < k) (sym (ap (λ (k : ℕ). 2 ^ k) (add-comm (n - m) i) ∙ pow-add 2 i (n - m))) (digits-lt (r .3) (r .2)))
         (sum (r .1 * 2 ^ (n - m) + r .0) ∙ ap₂ (λ (x y : ℕ). bitXor (comb (delta m cols) x) (comb (phi m cols) y)) (low (r .1) (n - m) (r .2)) (high (r .1) (n - m) (r .2)) ∙ r .4 ∙ sym at))
     go false e =
         sym (marked-intro (delta m cols ++ phi m cols) (n - m + i)
-        (λ s h q. true≢false (sym (reached-intro n m hm cols i (s % 2 ^ (n - m)) (s / 2 ^ (n - m)) (mod-lt s (pow-pos (n - m))) (shr-lt i (n - m) (subst (λ (k : ℕ). s < 2 ^ k) (native.Mathlib.Nat.add-comm (n - m) i) h)) (sym (sum s) ∙ q ∙ at)) ∙ e)))
+        (λ s h q. true≢false (sym (reached-intro n m hm cols i (s % 2 ^ (n - m)) (s / 2 ^ (n - m)) (mod-lt s (pow-pos (n - m))) (shr-lt i (n - m) (subst (λ (k : ℕ). s < 2 ^ k) (add-comm (n - m) i) h)) (sym (sum s) ∙ q ∙ at)) ∙ e)))
 
 -- ---- what an elimination uses picks marked columns only
 only-times : (p : ℕ → Bool) (k d x : ℕ) → Only p k x → Only p k (times d x)
@@ -83,7 +65,7 @@ used-only p n ws qs ts (suc k) v h =
 
 pub tags-only : (room : ℕ) (cols : List ℕ) (w : ℕ) → w ≤ 32 → ((i : ℕ) → getD cols i 0 < 2 ^ w) → (n j : ℕ) → j ≤ room → (i : ℕ) → i < built room cols j .count → Only (marked cols) n (getD (built room cols j .tags) i 0)
 unfolding built
-tags-only room cols w hw hc n zero hj = λ i h. absurd (native.Mathlib.Nat.not-suc-le-zero h)
+tags-only room cols w hw hc n zero hj = λ i h. absurd (not-suc-le-zero h)
 tags-only room cols w hw hc n (suc j) hj = step (built room cols j) (built-is room cols w hw hc j (omega arith)) (tags-only room cols w hw hc n j (omega arith))
   where
     step : (e : Echelon) → Built room cols w j e → ((i : ℕ) → i < e .count → Only (marked cols) n (getD (e .tags) i 0)) → (i : ℕ) → i < grown e j (getD cols j 0) .count → Only (marked cols) n (getD (grown e j (getD cols j 0) .tags) i 0)
@@ -139,25 +121,3 @@ eraser-used room hroom n b m hm cols small trailing hd hc j hb hj e =
 pub column-after : (a q : List ℕ) (j : ℕ) → getD (after a q) j 0 ≡ comb a (getD q j 0)
 unfolding after
 column-after a q j = ap (getD (map (comb a) q) j) (sym (comb-zero a)) ∙ List·getD-map (comb a) q j 0
-
--- columns added: column j with the set that g j picks
-pub column-adding : (a : List ℕ) (g : ℕ → ℕ) (n j : ℕ) → j < n → getD (after a (adding g n)) j 0 ≡ bitXor (getD a j 0) (comb a (g j))
-column-adding a g n j h =
-    sym (comb-one (after a (adding g n)) j) ∙ comb-after a (adding g n) (2 ^ j) ∙ ap (comb a) (adding-at g n j h) ∙ comb-xor a (2 ^ j) (g j) ∙ ap (λ (k : ℕ). bitXor k (comb a (g j))) (comb-one a j)
-
--- columns placed: column σ j in the place of column j
-pub column-placing : (a : List ℕ) (σ : ℕ → ℕ) (n j : ℕ) → j < n → getD (after a (placing σ n)) j 0 ≡ getD a (σ j) 0
-column-placing a σ n j h =
-    sym (comb-one (after a (placing σ n)) j) ∙ comb-after a (placing σ n) (2 ^ j) ∙ ap (comb a) (placing-at σ n j h) ∙ comb-one a (σ j)
-
--- P, and so P⁻¹: column j with what steps 1 and 2 add to it
-pub column-operations : (n m : ℕ) (hm : m ≤ n) (cols : List ℕ) (j : ℕ) → j < n
-    → getD (operations n m cols) j 0 ≡ bitXor (2 ^ j) (bitXor (mate (unmarked n m cols) (chosen n m cols) j) (summands m (after cols (step1 n m cols)) j))
-column-operations n m hm cols j h =
-    sym (comb-one (operations n m cols) j) ∙ operations-sum n m hm cols (2 ^ j) (pow-lt h) ∙ ap₂ (λ (x y : ℕ). bitXor (2 ^ j) (bitXor x y)) g1 g2
-  where
-    g1 : G1 n m hm cols (2 ^ j) ≡ mate (unmarked n m cols) (chosen n m cols) j
-    g1 = unfold G1 in comb-one (listed (mate (unmarked n m cols) (chosen n m cols)) n 0) j ∙ listed-at 0 (mate (unmarked n m cols) (chosen n m cols)) n 0 j h ∙ ap (mate (unmarked n m cols) (chosen n m cols)) (native.Mathlib.Nat.zero-add j)
-
-    g2 : G2 n m hm cols (2 ^ j) ≡ summands m (after cols (step1 n m cols)) j
-    g2 = unfold G2 in comb-one (listed (summands m (after cols (step1 n m cols))) n 0) j ∙ listed-at 0 (summands m (after cols (step1 n m cols))) n 0 j h ∙ ap (summands m (after cols (step1 n m cols))) (native.Mathlib.Nat.zero-add j)

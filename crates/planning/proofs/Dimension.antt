@@ -1,26 +1,28 @@
 -- How many vectors can be told apart in so many bits? Assumes nothing.
 use mathlib.Core.Path.{_∙_, _≡_, ap, ap₂, refl, subst, sym}
-use mathlib.Core.Bool.{Bool, false, not, true, true≢false}
+use mathlib.Core.Bool.{Bool, false, true, true≢false}
 use mathlib.Core.Logic.{⊎-elim}
 use mathlib.Core.List.{List, [], _∷_, map}
 use Prim.Native.Nat.{_%_, _*_, _+_, _/_, _<_, _^_, _≤_, suc, zero, ℕ}
-use native.Mathlib.Nat.{add-mul, add-suc, add-zero, div-add-mod', le-refl, mul-assoc, mul-comm, one-mul, pow-suc, zero-mul}
+use native.Mathlib.Nat.{add-suc, add-zero, mul-one, pow-suc, zero-add, zero-mul}
 use native.Mathlib.Omega.{arith}
 use lib.Arith.{digits-div, digits-lt, digits-mod, lt-one}
 use lib.Pow.{pow-lt, pow-pos}
 use lib.Dec.{eqb}
 use lib.ListN.{length}
-use lib.Bits.{bitXor, xor-comm, xor-lt, xor-self, xor-shifted, xor-zero-r}
+use lib.Bits.{bitXor, xor-lt, xor-self, xor-zero-r}
 use borrow.Author.Tests.{eq-eqb, eqb-true}
-use Rattle.algebra.proofs.Digits.{bin-ext, bit-cases, bit-here, bit-suc, bit-times, bit-xor, bit-zero, digit, half-lt, times-lt, times-one, times-zero, xor-eq}
-use Rattle.algebra.proofs.Linear.{comb-xor}
+use native.Mathlib.Numerals.{add-one}
+use Rattle.algebra.proofs.Digits.{bin-ext, bit-here, bit-pow, bit-pow-other, bit-suc, bit-times, bit-xor, bit-zero, digit, half-lt, times-lt, times-none, times-one, times-zero, xor-eq}
+use Rattle.algebra.proofs.Linear.{comb-xor, digit-split}
+use Rattle.algebra.proofs.Listed.{which-all, which-holds, which-split}
+use Rattle.algebra.proofs.Lists.{All, all-mono}
 use Rattle.algebra.proofs.Pigeon.{pigeon}
 use Rattle.algebra.proofs.Search.{le-or-lt, least-holds, least-upto}
 use Rattle.algebra.specs.Matrix.{marked, oneIf, rank}
 use Rattle.algebra.specs.Search.{least, which}
 use Rattle.algebra.specs.Vector.{bit, comb, times}
-use Rattle.planning.proofs.Acts.{All, all-mono, which-all, which-holds}
-use Rattle.planning.proofs.Marks.{Only, bit-pow, bit-pow-other}
+use Rattle.planning.proofs.Marks.{Only}
 
 pub inject-le : (k l : ℕ) (f : ℕ → ℕ) → ((i : ℕ) → i < 2 ^ k → f i < 2 ^ l) → ((i j : ℕ) → i < 2 ^ k → j < 2 ^ k → f i ≡ f j → i ≡ j) → k ≤ l
 inject-le k l f r a =
@@ -47,10 +49,6 @@ span-le k l g h w a = inject-le k l f (λ z q. f-lt z q) (λ x y p q e. a x y p 
 abbrev pub powers : List ℕ → List ℕ
 powers l = map (λ i. 2 ^ i) l
 
-pub times-none : (v : ℕ) → times 0 v ≡ 0
-unfolding times
-times-none v = refl
-
 pub powers-off : (l : List ℕ) (z i : ℕ) → All (λ x. i ≡ x → ⊥) l → bit (comb (powers l) z) i ≡ 0
 unfolding comb
 powers-off [] z i h = bit-zero i
@@ -62,18 +60,6 @@ pub powers-lt : (l : List ℕ) (m z : ℕ) → All (λ x. x < m) l → comb (pow
 unfolding comb
 powers-lt [] m z h = pow-pos m
 powers-lt (x ∷ l) m z h = xor-lt m (times (z % 2) (2 ^ x)) (comb (powers l) (z / 2)) (times-lt m (z % 2) (2 ^ x) (pow-lt (h .0))) (powers-lt l m (z / 2) (h .1))
-
-pub digit-split : (x j : ℕ) → bitXor (times (x % 2) (2 ^ j)) (x / 2 * 2 ^ suc j) ≡ x * 2 ^ j
-digit-split x j =
-    xor-comm (times (x % 2) (2 ^ j)) (x / 2 * 2 ^ suc j)
-    ∙ xor-shifted (x / 2) (suc j) (times (x % 2) (2 ^ j)) (times-lt (suc j) (x % 2) (2 ^ j) (pow-lt (le-refl (suc j))))
-    ∙ ap₂ (λ (u v : ℕ). x / 2 * u + v) (pow-suc 2 j ∙ mul-comm (2 ^ j) 2) (times-pow (x % 2) (digit x))
-    ∙ ap (λ (u : ℕ). u + x % 2 * 2 ^ j) (sym (mul-assoc (x / 2) 2 (2 ^ j)))
-    ∙ sym (add-mul (x / 2 * 2) (x % 2) (2 ^ j))
-    ∙ ap (λ (u : ℕ). u * 2 ^ j) (div-add-mod' x 2)
-  where
-    times-pow : (d : ℕ) → d < 2 → times d (2 ^ j) ≡ d * 2 ^ j
-    times-pow = bit-cases (λ (d : ℕ). times d (2 ^ j) ≡ d * 2 ^ j) (times-none (2 ^ j) ∙ sym (zero-mul (2 ^ j))) (unfold times in sym (one-mul (2 ^ j)))
 
 module _ (p : ℕ → Bool) where
   above : (k j : ℕ) → All (λ x. j ≡ x → ⊥) (which p k (suc j))
@@ -117,42 +103,6 @@ module _ (p : ℕ → Bool) where
             ∙ ap (bitXor (times (x % 2) (2 ^ j))) (t .2) ∙ digit-split x j,
       )
 
-  -- counting
-  pub which-not : (k j : ℕ) → length (which p k j) + length (which (λ i. not (p i)) k j) ≡ k
-  unfolding which
-  which-not zero j = refl
-  which-not (suc k) j = go (p j) (which-not k (suc j))
-    where
-      go : (b : Bool) → length (which p k (suc j)) + length (which (λ i. not (p i)) k (suc j)) ≡ k
-          → length {A = ℕ} (elim b [ true ↦ j ∷ which p k (suc j) | false ↦ which p k (suc j) ])
-          + length {A = ℕ} (elim (not b) [ true ↦ j ∷ which (λ i. not (p i)) k (suc j) | false ↦ which (λ i. not (p i)) k (suc j) ]) ≡ suc k
-      go true h = omega arith
-      go false h = omega arith
-
-  pub which-split : (a c j : ℕ) → length (which p (a + c) j) ≡ length (which p a j) + length (which p c (j + a))
-  unfolding which
-  which-split zero c j = ap₂ (λ (x y : ℕ). length (which p x y)) (native.Mathlib.Nat.zero-add c) (sym (add-zero j)) ∙ sym (native.Mathlib.Nat.zero-add (length (which p c (j + 0))))
-  which-split (suc a) c j = ap (λ (x : ℕ). length (which p x j)) (native.Mathlib.Nat.suc-add a c) ∙ go (p j) (which-split a c (suc j) ∙ ap (λ (x : ℕ). length (which p a (suc j)) + length (which p c x)) (omega arith))
-    where
-      go : (b : Bool) → length (which p (a + c) (suc j)) ≡ length (which p a (suc j)) + length (which p c (j + suc a))
-          → length {A = ℕ} (elim b [ true ↦ j ∷ which p (a + c) (suc j) | false ↦ which p (a + c) (suc j) ])
-          ≡ length {A = ℕ} (elim b [ true ↦ j ∷ which p a (suc j) | false ↦ which p a (suc j) ]) + length (which p c (j + suc a))
-      go true h = omega arith
-      go false h = h
-
--- tests that agree on the range list the same places
-pub which-ext : (p q : ℕ → Bool) (k j : ℕ) → ((i : ℕ) → j ≤ i → i < j + k → p i ≡ q i) → which p k j ≡ which q k j
-unfolding which
-which-ext p q zero j h = refl
-which-ext p q (suc k) j h =
-    ap₂ (λ (b : Bool) (l : List ℕ). elim b [ true ↦ j ∷ l | false ↦ l ]) (h j (le-refl j) (omega arith)) (which-ext p q k (suc j) (λ i a b. h i (omega arith) (omega arith)))
-
-pub which-none : (p : ℕ → Bool) (k j : ℕ) → ((i : ℕ) → j ≤ i → i < j + k → p i ≡ false) → which p k j ≡ []
-unfolding which
-which-none p zero j h = refl
-which-none p (suc k) j h =
-    ap₂ (λ (b : Bool) (l : List ℕ). elim b [ true ↦ j ∷ l | false ↦ l ]) (h j (le-refl j) (omega arith)) (which-none p k (suc j) (λ i a b. h i (omega arith) (omega arith)))
-
 -- ---- numbers that pick only places below k that pass p, from numbers below 2 ^ (how many there are)
 module _ (p : ℕ → Bool) (k : ℕ) where
   unfoldable pub spread : ℕ → ℕ
@@ -175,14 +125,14 @@ module _ (p : ℕ → Bool) (k : ℕ) where
   pub spread-all : (x : ℕ) → x < 2 ^ k → Only p k x → (z : ℕ) × (z < 2 ^ length (which p k 0)) × (spread z ≡ x)
   unfolding spread
   spread-all x h o =
-      let t = spread-onto p k 0 x h (λ i l e. o i l (ap p (sym (native.Mathlib.Nat.zero-add i)) ∙ e)) in (t .0, t .1, t .2 ∙ native.Mathlib.Nat.mul-one x)
+      let t = spread-onto p k 0 x h (λ i l e. o i l (ap p (sym (zero-add i)) ∙ e)) in (t .0, t .1, t .2 ∙ mul-one x)
 
 -- the rank counts the marked columns
 pub rank-which : (part : List ℕ) (k : ℕ) → rank part k ≡ length (which (marked part) k 0)
 unfolding rank
 rank-which part zero = unfold which in refl
 rank-which part (suc k) =
-    ap (λ (u : ℕ). u + oneIf (marked part k)) (rank-which part k) ∙ sym (ap (λ (u : ℕ). length (which (marked part) u 0)) (sym (native.Mathlib.Numerals.add-one k)) ∙ which-split (marked part) k 1 0 ∙ ap (λ (u : ℕ). length (which (marked part) k 0) + u) (ap (λ (u : ℕ). length (which (marked part) 1 u)) (native.Mathlib.Nat.zero-add k) ∙ last))
+    ap (λ (u : ℕ). u + oneIf (marked part k)) (rank-which part k) ∙ sym (ap (λ (u : ℕ). length (which (marked part) u 0)) (sym (add-one k)) ∙ which-split (marked part) k 1 0 ∙ ap (λ (u : ℕ). length (which (marked part) k 0) + u) (ap (λ (u : ℕ). length (which (marked part) 1 u)) (zero-add k) ∙ last))
   where
     go : (b : Bool) → length {A = ℕ} (elim b [ true ↦ k ∷ [] | false ↦ [] ]) ≡ oneIf b
     go true = refl

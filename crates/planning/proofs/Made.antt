@@ -11,9 +11,9 @@ use Rattle.bank.specs.Geometry.{inLimits}
 use Rattle.bank.specs.Limits.{PASSES}
 use Rattle.bank.specs.declared.Geometry.{Geometry}
 use Rattle.algebra.specs.Matrix.{columns, rank, singular, spills, target}
-use Rattle.planning.proofs.Acts.{all-at, at-all}
+use Rattle.algebra.proofs.Lists.{all-at, at-all}
 use Rattle.planning.proofs.Bound.{passes-bound}
-use Rattle.planning.proofs.Run.{plan-half, plan-length, plan-moves, plan-none, plan-runs}
+use Rattle.planning.proofs.Run.{plan-half, plan-length, plan-moves, plan-runs}
 use Rattle.planning.proofs.Running.{runs-back, runs→sound, sound-allowed, sound-dry, sound→can-run, sound→checked}
 use Rattle.planning.proofs.Runs.{MatrixRuns, Runs}
 use Rattle.planning.proofs.Stored.{route-length}
@@ -69,11 +69,6 @@ module _ (g : Geometry) (rows : List ℕ) (c : ℕ) (hg : inLimits g ≡ true) (
   pub made-few : length (passesFor g rows c) ≤ PASSES
   unfolding passesFor
   made-few = omega (arith, complemented-length matrices c, plan-half (g .n) (g .b) (g .m) (a .block-below) hm rows hr hs, a .n-high)
-
-  -- with no rounds the only pass is the order itself
-  pub made-none : ((i : ℕ) → i < g .n → getD rows i 0 < 2 ^ g .n) → rank (phi (g .m) (columns (g .n) rows)) (g .m) ≡ 0 → passesFor g rows c ≡ record { rows = rows; complement = c } ∷ []
-  unfolding passesFor complemented
-  made-none small e = ap (λ (fs : List (List ℕ)). complemented fs c) (plan-none (g .n) (g .b) (g .m) (a .block-below) hm rows hr small hs e)
 
   -- the passes take every x to Ax xor c
   pub made-performs : (x : ℕ) → x < 2 ^ g .n → performed (passesFor g rows c) x ≡ target rows c x

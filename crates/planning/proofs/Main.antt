@@ -10,10 +10,10 @@ use Rattle.bank.specs.Limits.{PASSES, ROWS}
 use Rattle.bank.specs.declared.Geometry.{Geometry}
 use Rattle.algebra.proofs.Columns.{columns-lt}
 use Rattle.algebra.proofs.Linear.{apply-columns, comb-lt}
+use Rattle.algebra.proofs.Lists.{All}
 use Rattle.algebra.proofs.Singular.{regular-zero}
 use Rattle.algebra.specs.Matrix.{columns, marked, rank, singular, target}
 use Rattle.algebra.specs.Vector.{comb}
-use Rattle.planning.proofs.Acts.{All}
 use Rattle.planning.proofs.Made.{made-can-run, made-few, made-near, made-performs, made-route, runs-bound}
 use Rattle.planning.proofs.Marks.{Only}
 use Rattle.planning.proofs.Round.{Sound, eraser-one, eraser-right, next-nonzero, next-sound, nonzero, swapped-sound}

@@ -1,49 +1,29 @@
 -- Which sums of marked columns are there, and how many ways? Assumes nothing.
 use mathlib.Core.Path.{_∙_, _≡_, ap, ap₂, refl, subst, sym}
 use mathlib.Core.Bool.{Bool, _&&_, false, not, true, true≢false}
-use mathlib.Core.Logic.{inl, inr, ⊎-elim}
+use mathlib.Core.Logic.{⊎-elim}
 use mathlib.Core.List.{List}
-use Prim.Native.Nat.{_%_, _/_, _<_, _^_, _≤_, suc, zero, ℕ}
-use native.Mathlib.Nat.{eq-zero-or-pos, le-refl, le-suc, le-trans, lt-of-lt-of-le, one-mul}
+use Prim.Native.Nat.{_<_, _^_, _≤_, suc, zero, ℕ}
+use native.Mathlib.Nat.{eq-zero-or-pos, le-refl, le-suc, le-trans, lt-of-lt-of-le}
 use native.Mathlib.Omega.{arith}
 use lib.Arith.{lt-one}
-use lib.Pow.{pow-lt, pow-mono, pow-pos, shl-shr}
+use lib.Pow.{pow-lt, pow-mono, pow-pos}
 use lib.Dec.{eqb}
 use lib.ListN.{getD}
 use lib.Bits.{bitXor, xor-comm, xor-lt, xor-self}
-use borrow.Author.Tests.{eqb-false, eqb-true, ne-eqb, not-false, not-true}
-use Rattle.algebra.proofs.Digits.{bit-lt, bit-xor, xor-assoc, xor-eq, xor4}
-use Rattle.algebra.proofs.Kernel.{comb-top, marked-elim, top-digit}
+use borrow.Author.Tests.{eqb-false, ne-eqb, not-true}
+use Rattle.algebra.proofs.Digits.{bit-above, bit-lt, bit-xor, top-bit, top-digit, under-bit, xor-assoc, xor-eq, xor4}
+use Rattle.algebra.proofs.Kernel.{comb-top, marked-elim, unmarked-elim}
 use Rattle.algebra.proofs.Linear.{comb-xor, comb-zero}
-use Rattle.algebra.proofs.Search.{below-suc, none-elim, none-intro, some-elim}
+use Rattle.algebra.proofs.Search.{below-suc, le-or-lt, none-elim, none-intro}
 use Rattle.algebra.specs.Matrix.{marked}
 use Rattle.algebra.specs.Search.{some}
 use Rattle.algebra.specs.Vector.{bit, comb}
-use Rattle.planning.proofs.Acts.{bit-above, bit-shifted}
 use Rattle.planning.specs.Columns.{onlyMarked}
 
 -- s picks none of the first k columns that fail p
 abbrev pub Only : (ℕ → Bool) → ℕ → ℕ → Type 0
 Only p k s = (i : ℕ) → i < k → p i ≡ false → bit s i ≡ 0
-
-pub bit-pow : (j : ℕ) → bit (2 ^ j) j ≡ 1
-unfolding bit
-bit-pow j = ap (λ (k : ℕ). k % 2) (ap (λ (k : ℕ). k / 2 ^ j) (sym (one-mul (2 ^ j))) ∙ shl-shr 1 j)
-
-pub bit-pow-low : (j i : ℕ) → i < j → bit (2 ^ j) i ≡ 0
-bit-pow-low j i h = ap (λ (k : ℕ). bit k i) (sym (one-mul (2 ^ j))) ∙ bit-shifted 1 j i h
-
-pub bit-pow-other : (j i : ℕ) → (i ≡ j → ⊥) → bit (2 ^ j) i ≡ 0
-bit-pow-other j i f =
-    ⊎-elim (λ (l : i < j). bit-pow-low j i l) (λ (l : j < i). bit-above (2 ^ j) (suc j) i (pow-lt (le-refl (suc j))) l)
-    (⊎-elim (λ (l : i ≤ j). ⊎-elim (λ (e : i ≡ j). absurd (f e)) (λ (l : i < j). inl l) (native.Mathlib.Nat.eq-or-lt-of-le l)) (λ (l : j < i). inr l) (Rattle.algebra.proofs.Search.le-or-lt i j))
-
--- 2 ^ j over a smaller number
-pub top-bit : (j s : ℕ) → s < 2 ^ j → bit (bitXor (2 ^ j) s) j ≡ 1
-top-bit j s h = bit-xor (2 ^ j) s j ∙ ap₂ bitXor (bit-pow j) (bit-above s j j h (le-refl j))
-
-pub under-bit : (j s i : ℕ) → i < j → bit (bitXor (2 ^ j) s) i ≡ bit s i
-under-bit j s i h = bit-xor (2 ^ j) s i ∙ ap (λ (k : ℕ). bitXor k (bit s i)) (bit-pow-low j i h)
 
 pub only-xor : (p : ℕ → Bool) (k x y : ℕ) → Only p k x → Only p k y → Only p k (bitXor x y)
 only-xor p k x y hx hy i l e = bit-xor x y i ∙ ap₂ bitXor (hx i l e) (hy i l e)
@@ -52,7 +32,7 @@ pub only-fewer : (p : ℕ → Bool) (j k x : ℕ) → j ≤ k → Only p k x →
 only-fewer p j k x h f i l e = f i (le-trans l h) e
 
 pub only-more : (p : ℕ → Bool) (j k x : ℕ) → x < 2 ^ j → Only p j x → Only p k x
-only-more p j k x h f i l e = ⊎-elim (λ (q : j ≤ i). bit-above x j i h q) (λ (q : i < j). f i q e) (Rattle.algebra.proofs.Search.le-or-lt j i)
+only-more p j k x h f i l e = ⊎-elim (λ (q : j ≤ i). bit-above x j i h q) (λ (q : i < j). f i q e) (le-or-lt j i)
 
 module _ (vs : List ℕ) (p : ℕ → Bool) (R : ℕ → Type 0) (r0 : R 0) (rx : (x y : ℕ) → R x → R y → R (bitXor x y)) (k : ℕ)
     (off : (j : ℕ) → j < k → p j ≡ false → (s : ℕ) × (s < 2 ^ j) × R (bitXor (comb vs s) (getD vs j 0)))
@@ -107,12 +87,6 @@ module _ (vs : List ℕ) (p : ℕ → Bool) (R : ℕ → Type 0) (r0 : R 0) (rx 
           )
 
 -- ---- the marked columns of a part
-pub unmarked-elim : (cols : List ℕ) (j : ℕ) → marked cols j ≡ false → (s : ℕ) × (s < 2 ^ j) × (comb cols s ≡ getD cols j 0)
-unfolding marked
-unmarked-elim cols j e =
-    let t = some-elim (λ s. eqb (comb cols s) (getD cols j 0)) (2 ^ j) (not-false (some (λ s. eqb (comb cols s) (getD cols j 0)) (2 ^ j)) e) in
-    (t .0, t .1, eqb-true (comb cols (t .0)) (getD cols j 0) (t .2))
-
 module _ (part : List ℕ) (k : ℕ) where
   m-off : (j : ℕ) → j < k → marked part j ≡ false → (s : ℕ) × (s < 2 ^ j) × (bitXor (comb part s) (getD part j 0) ≡ 0)
   m-off j h e = let t = unmarked-elim part j e in (t .0, t .1, ap (λ (x : ℕ). bitXor x (getD part j 0)) (t .2) ∙ xor-self (getD part j 0))

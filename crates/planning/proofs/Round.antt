@@ -6,23 +6,23 @@ use mathlib.Core.List.{List, [], _∷_}
 use Prim.Native.Nat.{_%_, _*_, _+_, _-_, _/_, _<_, _^_, _≤_, min, suc, zero, ℕ}
 use native.Mathlib.Nat.{add-zero, div-eq-of-lt, div-lt-iff-lt-mul, le-refl, lt-of-lt-of-le, mod-eq-of-lt, mul-mod-left, one-mul, sub-add-cancel, zero-add, zero-div, zero-mod, zero-mul}
 use native.Mathlib.Omega.{arith}
-use lib.Arith.{lt-one}
+use lib.Arith.{lt-of-le-ne, lt-one}
 use lib.Pow.{field, pow-add, pow-lt, pow-mono, pow-pos}
 use lib.Dec.{eqb, leb, ltb}
 use lib.ListN.{getD, length}
 use lib.Bits.{bitXor, xor-block, xor-lt, xor-mod, xor-self, xor-shr, xor-zero-r}
 use borrow.Author.Tests.{eq-eqb, eqb-true, le-leb, le-ltb, lt-leb, lt-ltb}
-use Rattle.algebra.proofs.Digits.{half-lt, times-lt, times-zero, xor-eq}
-use Rattle.algebra.proofs.Linear.{Linear, comb-linear, comb-xor, comb-zero}
+use Rattle.algebra.proofs.Digits.{bit-above, bit-shifted, half-lt, shl-below, shr-below, times-lt, times-no, times-zero, xor-eq}
+use Rattle.algebra.proofs.Linear.{Linear, comb-linear, comb-xor, comb-zero, linear-after, linear-ext}
+use Rattle.algebra.proofs.Listed.{listed-length, which-all, which-asc, which-ext, which-holds, which-none, which-not, which-split}
+use Rattle.algebra.proofs.Lists.{All, Asc, all-mono}
 use Rattle.algebra.proofs.Pigeon.{covers}
-use Rattle.algebra.proofs.Search.{le-or-lt}
+use Rattle.algebra.proofs.Search.{first-found, first-lt, le-or-lt, same-or}
 use Rattle.algebra.specs.Search.{firstOf, listed, which}
 use Rattle.algebra.specs.Vector.{bit, comb, times}
-use Rattle.planning.proofs.Acts.{All, Asc, adding-at, adding-is, adding-lt, adding-twice, all-mono, bit-above, bit-shifted, comb-after, first-lt, hit-x, linear-after, linear-ext, listed-length, miss, partner-back, partner-lt, partner-out, placing-at, same-or, sum-none, swap-lt, swap-twice, times-no, which-all, which-asc, which-holds}
-use Rattle.planning.proofs.Dimension.{which-ext, which-none, which-not, which-split}
+use Rattle.planning.proofs.Acts.{adding-at, adding-is, adding-lt, adding-twice, comb-after, hit-x, miss, partner-back, partner-lt, partner-out, placing-at, sum-none, swap-lt, swap-twice}
 use Rattle.planning.proofs.Parts.{delta-comb, phi-at}
-use Rattle.planning.proofs.Step1.{shl-below, shr-below}
-use Rattle.planning.proofs.Step2.{after-length, first-found}
+use Rattle.planning.proofs.Step2.{after-length}
 use Rattle.planning.specs.Columns.{adding, after, delta, phi, placing, zeroColumn}
 use Rattle.planning.specs.Making.{eraser, erases, partner, swaps}
 
@@ -253,7 +253,7 @@ which-flip p q (suc k) j x a l h e f =
     ap suc (ap₂ (λ (b : Bool) (l : List ℕ). length {A = ℕ} (elim b [ true ↦ j ∷ l | false ↦ l ])) (ap p s ∙ e) (which-ext p q k (suc j) (λ i u v. h i (omega arith) (omega arith) (λ r. omega arith))))
     ∙ sym (ap (λ (b : Bool). length {A = ℕ} (elim b [ true ↦ j ∷ which q k (suc j) | false ↦ which q k (suc j) ])) (ap q s ∙ f)))
     (λ (s : j ≡ x → ⊥).
-    let lt : j < x = lib.Arith.lt-of-le-ne a s in
+    let lt : j < x = lt-of-le-ne a s in
     go (p j) (q j) (h j (le-refl j) (omega arith) s) (which-flip p q k (suc j) x lt (omega arith) (λ i u v w. h i (omega arith) (omega arith) w) e f))
     (same-or j x)
   where

@@ -4,7 +4,7 @@ use mathlib.Core.Bool.{Bool, false, not, true}
 use mathlib.Core.Logic.{⊎-elim}
 use mathlib.Core.List.{List, [], _∷_, map}
 use Prim.Native.Nat.{_%_, _*_, _+_, _-_, _/_, _<_, _^_, _≤_, suc, zero, ℕ}
-use native.Mathlib.Nat.{add-div-right, div-eq-of-lt, div-le-of-le-mul, zero-add}
+use native.Mathlib.Nat.{add-div-right, div-eq-of-lt, div-le-of-le-mul, le-antisymm, mul-one, mul-suc, zero-add}
 use native.Mathlib.Numerals.{add-one}
 use native.Mathlib.Omega.{arith}
 use lib.Dec.{eqb}
@@ -13,13 +13,14 @@ use lib.Bits.{bitXor, xor-zero-r}
 use borrow.Author.Tests.{eqb-false, eqb-true, not-true}
 use Rattle.algebra.proofs.Basis.{span-zero}
 use Rattle.algebra.proofs.Columns.{apply-transpose}
-use Rattle.algebra.proofs.Linear.{comb-zero}
+use Rattle.algebra.proofs.Linear.{comb-zero, linear-self}
+use Rattle.algebra.proofs.Listed.{listed-length, which-member, which-none}
+use Rattle.algebra.proofs.Lists.{All}
 use Rattle.algebra.proofs.Search.{le-or-lt, none-elim, some-elim}
 use Rattle.algebra.specs.Matrix.{columns, target}
 use Rattle.algebra.specs.Search.{which}
 use Rattle.algebra.specs.Vector.{comb}
-use Rattle.planning.proofs.Acts.{All, comb-after, linear-self, listed-length, which-member}
-use Rattle.planning.proofs.Dimension.{which-none}
+use Rattle.planning.proofs.Acts.{comb-after}
 use Rattle.planning.proofs.Parts.{phi-comb}
 use Rattle.planning.proofs.Round.{E-dry, S-low, S-lt, S-twice, Sound, erases-lt, erases-twice, next-is, next-nonzero, next-sound, nonzero}
 use Rattle.planning.proofs.Step2.{after-length}
@@ -78,12 +79,12 @@ up-zero k h = ap (λ (x : ℕ). x / k) (zero-add (k - 1)) ∙ div-eq-of-lt (omeg
 
 pub up-le : (a k : ℕ) → 0 < k → dividedUp a k ≤ a
 unfolding dividedUp
-up-le a k h = ⊎-elim (λ (z : a ≤ 0). omega (arith, ap (λ (u : ℕ). dividedUp u k) (native.Mathlib.Nat.le-antisymm z (omega arith)) ∙ up-zero k h)) (λ (z : 0 < a). div-le-of-le-mul k (big a k z h)) (le-or-lt a 0)
+up-le a k h = ⊎-elim (λ (z : a ≤ 0). omega (arith, ap (λ (u : ℕ). dividedUp u k) (le-antisymm z (omega arith)) ∙ up-zero k h)) (λ (z : 0 < a). div-le-of-le-mul k (big a k z h)) (le-or-lt a 0)
   where
     big : (a k : ℕ) → 0 < a → 0 < k → a + (k - 1) ≤ k * a
     big zero k p q = absurd (omega arith)
-    big (suc zero) k p q = omega (arith, native.Mathlib.Nat.mul-one k)
-    big (suc (suc a)) k p q = omega (arith, big (suc a) k (omega arith) q, native.Mathlib.Nat.mul-suc k (suc a))
+    big (suc zero) k p q = omega (arith, mul-one k)
+    big (suc (suc a)) k p q = omega (arith, big (suc a) k (omega arith) q, mul-suc k (suc a))
 
 pub up-step : (a k : ℕ) → 0 < a → 0 < k → dividedUp a k ≡ suc (dividedUp (a - k) k)
 unfolding dividedUp

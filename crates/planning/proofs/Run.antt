@@ -9,8 +9,9 @@ use lib.ListN.{getD, length, length-map}
 use lib.Seq.{ext-getD}
 use lib.Bits.{and-comm, bitXor}
 use Rattle.algebra.proofs.Columns.{apply-transpose, columns-at, columns-length, columns-lt}
-use Rattle.algebra.proofs.Digits.{bits-same}
+use Rattle.algebra.proofs.Digits.{bits-same, shr-below}
 use Rattle.algebra.proofs.Linear.{apply-bit, apply-columns, comb-lt, comb-one, comb-zero, dot-unit}
+use Rattle.algebra.proofs.Lists.{All}
 use Rattle.algebra.proofs.Parts.{dry-by-bits}
 use Rattle.algebra.proofs.Rank.{rank-le}
 use Rattle.algebra.proofs.Search.{none-intro}
@@ -18,14 +19,14 @@ use Rattle.algebra.proofs.Singular.{kills-elim, regular-zero}
 use Rattle.algebra.specs.Matrix.{apply, columns, kills, marked, rank, singular, target}
 use Rattle.algebra.specs.Search.{which}
 use Rattle.algebra.specs.Vector.{bit, comb, parity}
-use Rattle.planning.proofs.Acts.{All, comb-after}
+use Rattle.planning.proofs.Acts.{comb-after}
 use Rattle.planning.proofs.Dimension.{rank-which, span-le, spread, spread-inj, spread-lt, spread-only}
 use Rattle.planning.proofs.Marks.{marks-one}
 use Rattle.planning.proofs.Parts.{phi-comb}
 use Rattle.planning.proofs.Round.{Sound, nonzero}
 use Rattle.planning.proofs.Rounds.{Good, after-good, idle, pass-moves, rounds-good, rounds-length, rounds-move, rounds-stop, up-le}
 use Rattle.planning.proofs.Runs.{MatrixRuns}
-use Rattle.planning.proofs.Step1.{delta-regular, shr-below}
+use Rattle.planning.proofs.Step1.{delta-regular}
 use Rattle.planning.proofs.Step2.{after-length, delta-moved, moved-rank, operations-length, operations-low, operations-lt, operations-twice, undone-operations}
 use Rattle.planning.specs.Columns.{after, phi, undone}
 use Rattle.planning.specs.Making.{dividedUp, firstAfter, operations, passMatrices, rounds}

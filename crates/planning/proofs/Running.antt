@@ -144,10 +144,6 @@ module _ (plan : Plan) (next : ℕ) where
   unfolding canRun
   can-run→sound e = and-l (sound plan) _ e
 
-  pub can-run→next : canRun plan next ≡ true → next ≤ total (routeOf plan)
-  unfolding canRun
-  can-run→next e = leb-true next (total (routeOf plan)) (and-r (sound plan) (leb next (total (routeOf plan))) e)
-
   pub sound→can-run : sound plan ≡ true → next ≤ total (routeOf plan) → canRun plan next ≡ true
   unfolding canRun
   sound→can-run e h = and-both (sound plan) (leb next (total (routeOf plan))) e (le-leb next (total (routeOf plan)) h)

@@ -2,26 +2,29 @@
 use mathlib.Core.Path.{_∙_, _≡_, ap, ap₂, refl, subst, sym}
 use mathlib.Core.Bool.{Bool, _&&_, false, not, true, true≢false}
 use mathlib.Core.Logic.{⊎-elim}
-use mathlib.Core.List.{List, [], _∷_, map}
+use mathlib.Core.List.{List, [], _∷_}
 use Prim.Native.Nat.{_%_, _*_, _+_, _-_, _/_, _<_, _^_, _≤_, ℕ}
-use native.Mathlib.Nat.{le-antisymm, le-refl, lt-of-lt-of-le, mod-lt, sub-add-cancel, zero-add}
+use native.Mathlib.Nat.{le-antisymm, le-refl, lt-of-lt-of-le, mod-lt, zero-add}
 use native.Mathlib.Omega.{arith}
 use lib.Arith.{digits-lt}
-use lib.Pow.{high, low, pow-add, pow-lt, pow-mono, pow-pos, shl-lt, shl-shr, shr-lt, shr-shr, split}
+use lib.Pow.{high, low, pow-add, pow-lt, pow-mono, pow-pos, shl-shr, shr-lt, split}
 use lib.Dec.{eqb}
 use lib.ListN.{getD, length, length-map}
 use lib.Bits.{bitXor, xor-comm, xor-lt, xor-self, xor-shr, xor-zero-r}
 use borrow.Author.Tests.{eq-eqb, eqb-false, eqb-true, ne-eqb, not-false, not-true}
-use Rattle.algebra.proofs.Digits.{bit-lt, bit-times, bit-xor, bit-zero, times-add, times-one, times-zero, xor-assoc, xor-cancel-r, xor-eq, xor-move, xor4}
-use Rattle.algebra.proofs.Linear.{comb-linear, comb-one, comb-xor, comb-zero}
+use Rattle.algebra.proofs.Digits.{bit-above, bit-lt, bit-pow, bit-pow-other, bit-shl, bit-times, bit-xor, bit-zero, shl-below, shr-below, times-add, times-no, times-none, times-one, times-zero, xor-assoc, xor-cancel-r, xor-eq, xor-move, xor4}
+use Rattle.algebra.proofs.Kernel.{unmarked-elim}
+use Rattle.algebra.proofs.Linear.{comb-linear, comb-one, comb-xor, comb-zero, linear-ext, listed-lt}
+use Rattle.algebra.proofs.Listed.{listed-at, which-all, which-asc, which-holds, which-member, which-not}
+use Rattle.algebra.proofs.Lists.{All, Asc, all-map, all-mono, all-unmap, asc-shift}
 use Rattle.algebra.proofs.Pigeon.{covers}
 use Rattle.algebra.proofs.Search.{and-r, le-or-lt, some-elim, some-intro}
 use Rattle.algebra.specs.Matrix.{marked}
 use Rattle.algebra.specs.Search.{listed, some, which}
 use Rattle.algebra.specs.Vector.{bit, comb, times}
-use Rattle.planning.proofs.Acts.{All, Asc, adding-is, adding-lt, all-mono, bit-above, comb-after, linear-ext, listed-at, sum-none, times-no, which-all, which-asc, which-holds, which-member}
-use Rattle.planning.proofs.Dimension.{span-le, spread, spread-all, spread-inj, spread-lt, spread-only, times-none, which-not}
-use Rattle.planning.proofs.Marks.{Only, bit-pow, bit-pow-other, indep, marks-indep, marks-span, only-intro, only-xor, spans}
+use Rattle.planning.proofs.Acts.{adding-is, adding-lt, comb-after, sum-none}
+use Rattle.planning.proofs.Dimension.{span-le, spread, spread-all, spread-inj, spread-lt, spread-only}
+use Rattle.planning.proofs.Marks.{Only, indep, marks-indep, marks-span, only-intro, only-xor, spans}
 use Rattle.planning.proofs.Parts.{delta-comb, lower-parts, phi-comb}
 use Rattle.planning.specs.Columns.{after, delta, onlyMarked, phi}
 use Rattle.planning.specs.Making.{chosen, mate, reached, step1, unmarked}
@@ -101,20 +104,6 @@ pair-zero (u ∷ us) (w ∷ ws) x l a e =
           (sym (ap (λ (k : ℕ). bitXor k (pairsum us ws x)) (ap (λ (k : ℕ). times k (2 ^ w)) d ∙ times-none (2 ^ w))) ∙ e),
     )
 
--- ---- lists numbered as in A
-pub all-map : (P : ℕ → Type 0) (f : ℕ → ℕ) (l : List ℕ) → All (λ u. P (f u)) l → All P (map f l)
-all-map P f [] h = tt
-all-map P f (x ∷ xs) h = (h .0, all-map P f xs (h .1))
-
-pub all-unmap : (P : ℕ → Type 0) (f : ℕ → ℕ) (l : List ℕ) → All P (map f l) → All (λ u. P (f u)) l
-all-unmap P f [] h = tt
-all-unmap P f (x ∷ xs) h = (h .0, all-unmap P f xs (h .1))
-
-asc-shift : (m : ℕ) (l : List ℕ) → Asc l → Asc (map (λ u. m + u) l)
-asc-shift m [] h = tt
-asc-shift m (x ∷ xs) h =
-    (all-map (λ y. m + x < y) (λ u. m + u) xs (all-mono (λ y. x < y) (λ y. m + x < m + y) (λ y l. omega (arith, l)) xs (h .0)), asc-shift m xs (h .1))
-
 -- ---- what is added
 pub mate-low : (us ws : List ℕ) (m i : ℕ) → All (λ u. m ≤ u) us → i < m → mate us ws i ≡ 0
 unfolding mate
@@ -132,16 +121,6 @@ mate-lt (u ∷ us) (w ∷ ws) m j h = go (eqb j u) (mate-lt us ws m j (h .1))
     go : (x : Bool) → mate us ws j < 2 ^ m → elim x [ true ↦ 2 ^ w | false ↦ mate us ws j ] < 2 ^ m
     go true l = pow-lt (h .0)
     go false l = l
-
-pub bit-shl : (t m i : ℕ) → bit (t * 2 ^ m) (m + i) ≡ bit t i
-unfolding bit
-bit-shl t m i = ap (λ (k : ℕ). k % 2) (sym (shr-shr (t * 2 ^ m) m i) ∙ ap (λ (k : ℕ). k / 2 ^ i) (shl-shr t m))
-
-pub shl-below : (n m t : ℕ) → m ≤ n → t < 2 ^ (n - m) → t * 2 ^ m < 2 ^ n
-shl-below n m t hm h = subst (λ (k : ℕ). t * 2 ^ m < 2 ^ k) (sub-add-cancel hm) (shl-lt (n - m) m h)
-
-pub shr-below : (n m x : ℕ) → m ≤ n → x < 2 ^ n → x / 2 ^ m < 2 ^ (n - m)
-shr-below n m x hm h = shr-lt (n - m) m (subst (λ (k : ℕ). x < 2 ^ k) (sym (sub-add-cancel hm)) h)
 
 -- ---- step 1, of any matrix
 module _ (n m : ℕ) (hm : m ≤ n) (cols : List ℕ) where
@@ -249,7 +228,7 @@ module _ (n m : ℕ) (hm : m ≤ n) (cols : List ℕ) where
       go : (b : Bool) → marked (phi m cols) j ≡ b → b ≡ true
       go true q = refl
       go false q =
-          let t = Rattle.planning.proofs.Marks.unmarked-elim (phi m cols) j q in
+          let t = unmarked-elim (phi m cols) j q in
           absurd (w-on j (t .0) h e (t .1) (subst InDelta (sym (ap (λ (k : ℕ). bitXor k (getD (phi m cols) j 0)) (t .2) ∙ xor-self (getD (phi m cols) j 0))) in-none))
 
   -- ---- of a nonsingular matrix
@@ -368,7 +347,7 @@ module _ (n m : ℕ) (hm : m ≤ n) (cols : List ℕ) where
         let hx : x < 2 ^ n = shl-below n m t hm h in
         let g = comb (listed add1 n 0) x in
         let gp : g ≡ pairsum (unmarked n m cols) (chosen n m cols) x = pair-is (unmarked n m cols) (chosen n m cols) n x us-asc hx in
-        let gl : g < 2 ^ m = Rattle.planning.proofs.Acts.listed-lt add1 m n 0 x (λ j l. add1-lt j) in
+        let gl : g < 2 ^ m = listed-lt add1 m n 0 x (λ j l. add1-lt j) in
         let sum : bitXor (comb (delta m cols) t) (comb (phi m cols) g) ≡ 0
         = ap₂ bitXor (delta-comb m cols t) (phi-comb m cols g gl)
         ∙ sym (delta-comb m (after cols (step1 n m cols)) t ∙ ap (λ (k : ℕ). k / 2 ^ m) (comb-after cols (step1 n m cols) x ∙ ap (comb cols) (step1-is x hx) ∙ comb-xor cols x g) ∙ xor-shr (comb cols x) (comb cols g) m)

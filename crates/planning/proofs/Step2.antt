@@ -4,7 +4,7 @@ use mathlib.Core.Bool.{Bool, _&&_, false, not, true, true≢false}
 use mathlib.Core.Logic.{⊎-elim}
 use mathlib.Core.List.{List}
 use Prim.Native.Nat.{_*_, _-_, _/_, _<_, _^_, _≤_, ℕ}
-use native.Mathlib.Nat.{lt-of-lt-of-le, zero-add}
+use native.Mathlib.Nat.{lt-of-lt-of-le, lt-trans, zero-add}
 use native.Mathlib.Omega.{arith}
 use lib.Pow.{pow-lt, pow-mono, pow-pos}
 use lib.Dec.{eqb, ltb}
@@ -12,40 +12,22 @@ use lib.ListN.{getD, length, length-map}
 use lib.Seq.{ext-getD}
 use lib.Bits.{bitXor, xor-comm, xor-lt, xor-self, xor-shr, xor-zero-r}
 use borrow.Author.Tests.{eq-eqb, eqb-true, le-ltb, lt-ltb, ne-eqb}
-use Rattle.algebra.proofs.Digits.{bit-zero, times-zero, xor-assoc, xor-cancel-r}
-use Rattle.algebra.proofs.Linear.{comb-one, comb-xor}
-use Rattle.algebra.proofs.Search.{and-l, and-r, found-lt, le-or-lt, least-holds, least-is, none-elim, none-intro, some-elim, some-intro}
+use Rattle.algebra.proofs.Digits.{bit-above, bit-shifted, bit-zero, shl-below, times-no, times-zero, xor-assoc, xor-cancel-r}
+use Rattle.algebra.proofs.Kernel.{marked-ext, unmarked-elim}
+use Rattle.algebra.proofs.Linear.{comb-one, comb-xor, listed-lt}
+use Rattle.algebra.proofs.Listed.{listed-at, listed-length, which-ext, which-holds}
+use Rattle.algebra.proofs.Lists.{All, all-mono}
+use Rattle.algebra.proofs.Search.{and-l, and-r, first-found, first-lt, le-or-lt, least-is}
 use Rattle.algebra.specs.Matrix.{marked, rank}
-use Rattle.algebra.specs.Search.{firstOf, least, listed, some, which}
+use Rattle.algebra.specs.Search.{firstOf, least, listed, which}
 use Rattle.algebra.specs.Vector.{bit, comb, times}
-use Rattle.planning.proofs.Acts.{All, adding-at, adding-is, adding-lt, all-mono, bit-above, bit-shifted, comb-after, first-lt, listed-at, listed-length, listed-lt, sum-none, times-no, which-holds}
-use Rattle.planning.proofs.Dimension.{rank-which, which-ext}
-use Rattle.planning.proofs.Marks.{Only, marked-nonzero, marks-one, marks-span, only-elim, only-intro, only-more, unmarked-elim}
+use Rattle.planning.proofs.Acts.{adding-at, adding-is, adding-lt, comb-after, sum-none, twice-zero}
+use Rattle.planning.proofs.Dimension.{rank-which}
+use Rattle.planning.proofs.Marks.{Only, marked-nonzero, marks-one, marks-span, only-elim, only-intro, only-more}
 use Rattle.planning.proofs.Parts.{delta-comb, phi-at, phi-comb}
-use Rattle.planning.proofs.Step1.{add1, add1-low, add1-lt, pair-is, pair-off, shl-below, step1-is, step1-low, step1-lt, w-marked}
+use Rattle.planning.proofs.Step1.{add1, add1-low, add1-lt, pair-is, pair-off, step1-is, step1-low, step1-lt, us-asc, w-marked}
 use Rattle.planning.specs.Columns.{adding, after, delta, onlyMarked, phi, undone, zeroColumn}
 use Rattle.planning.specs.Making.{chosen, operations, reached, step1, step2, summands, unmarked}
-
-pub some-ext : (p q : ℕ → Bool) (n : ℕ) → ((k : ℕ) → k < n → p k ≡ q k) → some p n ≡ some q n
-some-ext p q n h = go (some p n) refl
-  where
-    go : (b : Bool) → some p n ≡ b → b ≡ some q n
-    go true e = let t = some-elim p n e in sym (some-intro q n (t .0) (t .1) (sym (h (t .0) (t .1)) ∙ t .2))
-    go false e = sym (none-intro q n (λ k l. sym (h k l) ∙ none-elim p n k e l))
-
-pub first-found : (p : ℕ → Bool) (n k : ℕ) → k < n → p k ≡ true → p (firstOf p n) ≡ true
-unfolding firstOf
-first-found p n k h e = go (some p n) refl
-  where
-    go : (b : Bool) → some p n ≡ b → p (elim b [ true ↦ least p n | false ↦ 0 ]) ≡ true
-    go true q = least-holds p n (found-lt p n q)
-    go false q = absurd (true≢false (sym e ∙ none-elim p n k q h))
-
-pub marked-ext : (f g : List ℕ) (m j : ℕ) → j < m → ((s : ℕ) → s < 2 ^ m → comb f s ≡ comb g s) → marked f j ≡ marked g j
-unfolding marked
-marked-ext f g m j h e =
-    ap not (some-ext (λ s. eqb (comb f s) (getD f j 0)) (λ s. eqb (comb g s) (getD g j 0)) (2 ^ j)
-    (λ k l. ap₂ eqb (e k (lt-of-lt-of-le l (pow-mono (omega arith)))) (sym (comb-one f j) ∙ e (2 ^ j) (pow-lt h) ∙ comb-one g j)))
 
 -- ---- step 2, of any matrix
 module _ (m : ℕ) (cols : List ℕ) where
@@ -186,7 +168,7 @@ undone-self n q l lt twice =
     is j h =
         let p : 2 ^ j < 2 ^ n = pow-lt h in
         least-is (λ x. eqb (comb q x) (2 ^ j)) (2 ^ n) (comb q (2 ^ j)) (lt (2 ^ j) p) (eq-eqb (comb q (comb q (2 ^ j))) (2 ^ j) (twice (2 ^ j) p))
-        (λ x k. ne-eqb (comb q x) (2 ^ j) (λ e. omega (arith, k, sym (twice x (native.Mathlib.Nat.lt-trans k (lt (2 ^ j) p))) ∙ ap (comb q) e)))
+        (λ x k. ne-eqb (comb q x) (2 ^ j) (λ e. omega (arith, k, sym (twice x (lt-trans k (lt (2 ^ j) p))) ∙ ap (comb q) e)))
         ∙ comb-one q j
 
 -- ---- P
@@ -255,7 +237,7 @@ module _ (n m : ℕ) (hm : m ≤ n) (cols : List ℕ) where
       go i l true e = ap (times (bit (G1 x) i)) (summands-marked m one i e) ∙ times-zero (bit (G1 x) i)
       go i l false e =
           times-no (bit (G1 x) i) (summands m one i)
-          (ap (λ (k : ℕ). bit k i) (pair-is (unmarked n m cols) (chosen n m cols) n x (Rattle.planning.proofs.Step1.us-asc n m hm cols) h)
+          (ap (λ (k : ℕ). bit k i) (pair-is (unmarked n m cols) (chosen n m cols) n x (us-asc n m hm cols) h)
           ∙ pair-off (unmarked n m cols) (chosen n m cols) x i (not-chosen i l (sym (marked-one i l) ∙ e)))
 
   up : {x : ℕ} → x < 2 ^ m → x < 2 ^ n
@@ -278,12 +260,12 @@ module _ (n m : ℕ) (hm : m ≤ n) (cols : List ℕ) where
       let q = bitXor (G1 x) (G2 x) in
       let lq : q < 2 ^ m = xor-lt m (G1 x) (G2 x) (G1-lt x) (G2-lt x) in
       let g1 : G1 q ≡ 0 = G1-low q lq in
-      let g2 : G2 q ≡ 0 = comb-xor (listed (summands m one) n 0) (G1 x) (G2 x) ∙ ap₂ bitXor (G2-G1 x h) (twice-zero x) in
+      let g2 : G2 q ≡ 0 = comb-xor (listed (summands m one) n 0) (G1 x) (G2 x) ∙ ap₂ bitXor (G2-G1 x h) (G2-G2 x) in
       ap (comb (operations n m cols)) (operations-sum x h) ∙ comb-xor (operations n m cols) x q
       ∙ ap₂ bitXor (operations-sum x h) (operations-sum q (up lq) ∙ ap (bitXor q) (ap₂ bitXor g1 g2) ∙ xor-zero-r q) ∙ xor-cancel-r x q
     where
-      twice-zero : (x : ℕ) → G2 (G2 x) ≡ 0
-      twice-zero x = Rattle.planning.proofs.Acts.twice-zero (summands m one) n (λ j l. lt-of-lt-of-le (summands-lt m one j) (pow-mono hm)) (summands-nil m one) x
+      G2-G2 : (x : ℕ) → G2 (G2 x) ≡ 0
+      G2-G2 x = twice-zero (summands m one) n (λ j l. lt-of-lt-of-le (summands-lt m one j) (pow-mono hm)) (summands-nil m one) x
 
   -- so P⁻¹ is P
   pub undone-operations : undone n (operations n m cols) ≡ operations n m cols

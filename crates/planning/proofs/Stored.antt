@@ -8,7 +8,7 @@ use lib.Arith.{digits-div, digits-lt, digits-mod}
 use lib.ListN.{drop, getD, length, length-drop, take}
 use lib.Seq.{ext-getD, getD-drop, getD-take, length-take-le}
 use Rattle.bank.specs.Limits.{PASSES, ROWS}
-use Rattle.planning.proofs.Acts.{listed-at, listed-length}
+use Rattle.algebra.proofs.Listed.{listed-at, listed-length}
 use Rattle.planning.specs.Pass.{Pass, Route, passAt, passIn}
 use Rattle.planning.specs.Stored.{planOf, routeOf, storedComplements, storedPass, storedRows}
 use Rattle.planning.specs.declared.Plan.{Plan}

@@ -11,6 +11,7 @@ use lib.Seq.{drop-cons, drop-at, drop-append-seam, take-at, take-append-seam, ap
 use lib.Pow.{pow-mono}
 use Rattle.bank.specs.Limits.{ROWS}
 use Rattle.algebra.proofs.Digits.{half-lt, bin-ext}
+use Rattle.algebra.proofs.Lists.{getD-zeros}
 use Rattle.text.specs.Lines.{line, bits, rowLines}
 use Rattle.text.specs.Parsing.{digitOf, digitAt}
 use Rattle.text.specs.Found.{RowAt, RowsFound, NoRows}
@@ -140,11 +141,6 @@ row-lines-inj n (v ∷ vs) (w ∷ ws) l f g e =
     (same-rest (line (bits n v)) (line (bits n w)) (rowLines n vs) (rowLines n ws) long e)
     in
     cc
-
-getD-zeros : (k j : ℕ) → getD {A = ℕ} (replicate k 0) j 0 ≡ 0
-getD-zeros zero j = refl
-getD-zeros (suc k) zero = refl
-getD-zeros (suc k) (suc j) = getD-zeros k j
 
 -- ---- the loop over rows
 -- before the first row

@@ -4,7 +4,7 @@ use Prim.Native.Nat.{_*_}
 use native.Mathlib.Omega.{arith}
 use borrow.Author.Needs.{needs}
 use borrow.Author.Tests.{not-true, not-false}
-use Rattle.plan.proofs.Judging.{records-small, size-allowed, size-few, stripe-small, stripe-some, total-outside, total-powers, total-small}
+use Rattle.plan.proofs.Judging.{records-small, size-allowed, size-few, stripe-small, stripe-some, total-from, total-outside, total-small}
 use Rattle.plan.proofs.running.total_steps.Statement.{statement}
 use Rattle.plan.proofs.running.total_steps.Tie as tie
 
@@ -57,8 +57,12 @@ mul-result-3 c =
 
 returns-2 : tie.Need-returns-2
 returns-2 c =
-    let plan = c .before .before .before .before .before .before .args .plan in
-    cc (total-powers plan (sym (c .before .before .before .before .before .size-in-limits .ensures) ∙ not-false _ (c .before .before .before .before .if1 .left)))
+    let size = c .before .before .before .power in
+    let block = c .before .before .power2 in
+    let drives = c .before .power3 in
+    total-from (c .before .before .before .before .before .before .args .plan)
+    (sym (c .before .before .before .before .before .size-in-limits .ensures) ∙ not-false _ (c .before .before .before .before .if1 .left)) (size .result) (block .result) (drives .result)
+    (c .wide .result) (size .ensures) (block .ensures) (drives .ensures) (c .wide .ensures)
 
 pub total-steps-spec : {M : Type 1} → statement M
 total-steps-spec =

@@ -5,7 +5,7 @@ use native.Mathlib.Omega.{arith}
 use borrow.Author.Needs.{needs}
 use lib.ListN.{length, getD, length-set}
 use Rattle.bank.specs.Limits.{ROWS, PASSES}
-use Rattle.plan.proofs.Storing.{copied-more, copied-whole}
+use Rattle.algebra.proofs.Lists.{copied-more, copied-whole}
 use Rattle.plan.proofs.store.pass_rows.Statement.{statement}
 use Rattle.plan.proofs.store.pass_rows.Tie as tie
 

@@ -3,8 +3,8 @@ use mathlib.Core.Path.{_∙_, _≡_, refl, sym}
 use Prim.Native.Nat.{_-_, _≤_}
 use borrow.Author.Needs.{needs}
 use Rattle.algebra.specs.Search.{leastFrom}
+use Rattle.algebra.proofs.Search.{found-here, found-later, found-none}
 use Rattle.planning.specs.Columns.{phi, zeroColumn}
-use Rattle.planner.proofs.Places.{found-here, found-later, found-none}
 use Rattle.planner.proofs.rounds.next_zero.Statement.{statement}
 use Rattle.planner.proofs.rounds.next_zero.Tie as tie
 
