@@ -5,7 +5,7 @@ use lib.Dec.{ltb, leb}
 use Rattle.bank.specs.Limits.{ROWS, BYTES}
 use Rattle.bank.specs.declared.Geometry.{Geometry}
 
--- 2 ≤ n ≤ 24, b < m < n, b + d ≤ m, 1 ≤ R ≤ 64
+-- 2 ≤ n ≤ ROWS, b < m < n, b + d ≤ m, 1 ≤ R ≤ BYTES
 unfoldable pub inLimits : Geometry → Bool
 inLimits g =
     leb 2 (g .n) && leb (g .n) ROWS && ltb (g .b) (g .m) && ltb (g .m) (g .n) && leb (g .b + g .d) (g .m) && leb 1 (g .r) && leb (g .r) BYTES

@@ -44,7 +44,7 @@ fn followed(first: [u32; ROWS], k: usize, second: [u32; ROWS], l: usize) -> [u32
 // The matrix that adds into each column of m..n that is not in the set one that is chosen, lowest with lowest, until one kind runs out.
 // In the set, columns m..n stand first, and then columns 0..m: those of them that are in it are the chosen ones.
 fn paired(set: u32, n: usize, m: usize) -> [u32; ROWS]
-    requires { ⌜ (m < n) × (n ≤ ROWS) × (set < 2 ^ n) ⌝ }
+    requires { ⌜ (m < n) × (n ≤ ROWS) × (set < 2 ^ n) × (0 < m) ⌝ }
     ensures { λ r. ⌜ r ≡ adding (mate (which (bare set m n) n 0) (placesOf m (set / 2 ^ (n - m)))) n ++ replicate (ROWS - n) 0 ⌝ }
 {
     let mut out = [0u32; ROWS];
@@ -61,7 +61,7 @@ fn paired(set: u32, n: usize, m: usize) -> [u32; ROWS]
 
 // Step 1 as a matrix, for a matrix of n columns.
 fn step1(cols: &[u32; ROWS], n: usize, m: usize) -> [u32; ROWS]
-    requires { ⌜ (m < n) × (n ≤ ROWS) ⌝ }
+    requires { ⌜ (0 < m) × (m < n) × (n ≤ ROWS) ⌝ }
     ensures { λ r. ⌜ r ≡ step1 n m (take n (now (cols .entry))) ++ replicate (ROWS - n) 0 ⌝ }
 {
     let delta = lower(cols, m, n, m);
@@ -90,7 +90,7 @@ fn step2(cols: &[u32; ROWS], n: usize, m: usize) -> [u32; ROWS]
 
 // A P and P, for the matrix A of n rows.
 pub fn operate(rows: &[u32; ROWS], n: usize, m: usize) -> Operated
-    requires { ⌜ (m < n) × (n ≤ ROWS) ⌝ }
+    requires { ⌜ (0 < m) × (m < n) × (n ≤ ROWS) ⌝ }
     ensures { λ r. ⌜ (r .cols ≡ after (columns n (take n (now (rows .entry)))) (operations n m (columns n (take n (now (rows .entry))))) ++ replicate (ROWS - n) 0) × (r .p ≡ operations n m (columns n (take n (now (rows .entry)))) ++ replicate (ROWS - n) 0) ⌝ }
 {
     let a = columns(rows, 0, n, n);

@@ -11,7 +11,7 @@ use Rattle.planning.specs.Pass.{passAt, total}
 use Rattle.planning.specs.Stored.{routeOf}
 use Rattle.planning.specs.declared.Plan.{Plan}
 
--- the pass count is 1 to 13
+-- the pass count is 1 to as many as there is room for
 unfoldable pub countInLimits : Plan → Bool
 countInLimits plan = leb 1 (plan .count) && leb (plan .count) PASSES
 

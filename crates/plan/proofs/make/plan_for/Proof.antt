@@ -32,7 +32,7 @@ cast-m : tie.Need-cast-m Inv-loop μ-loop
 cast-m c = search needs
 
 operate-requires : tie.Need-operate-requires Inv-loop μ-loop
-operate-requires c κs = let k = limits→allowed _ (c .before .before .before .before .pre .0) in (k .memory-below, k .n-high)
+operate-requires c κs = let k = limits→allowed _ (c .before .before .before .before .pre .0) in (omega (arith, k .block-below), k .memory-below, k .n-high)
 
 empty-plan-requires : tie.Need-empty-plan-requires Inv-loop μ-loop
 empty-plan-requires c κs = search needs

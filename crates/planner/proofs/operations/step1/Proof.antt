@@ -33,7 +33,7 @@ marks-requires c κs = search needs
 paired-requires : tie.Need-paired-requires
 paired-requires c κs =
     let n = c .before .before .before .before .args .n in
-    (search needs, search needs, subst (λ (set : ℕ). set < 2 ^ n) (sym (c .marks .ensures)) (mask-lt (marked (c .before .followed .result)) n))
+    (search needs, search needs, subst (λ (set : ℕ). set < 2 ^ n) (sym (c .marks .ensures)) (mask-lt (marked (c .before .followed .result)) n), search needs)
 
 returns : tie.Need-returns
 returns c =
