@@ -7,10 +7,10 @@ use native.Mathlib.Omega.{arith}
 use native.Mathlib.Nat.{pow-suc, pow-zero}
 use lib.ListN.{length, set, length-append}
 use Rattle.algebra.proofs.Search.{le-or-lt}
-use Rattle.text.specs.Lines.{digits, decimal}
+use Rattle.text.specs.Lines.{line, digits, decimal}
 use Rattle.text.specs.Written.{put, Wrote}
 use Rattle.text.proofs.Numbers.{digits-last, digits-more, decimal-one}
-use Rattle.text.proofs.Put.{put-nil, put-before, length-put}
+use Rattle.text.proofs.Put.{put-nil, put-before, length-put, length-word-line}
 
 -- once there are digits enough, more places change nothing
 digits-enough : (k v : ℕ) → v < 10 ^ suc k → digits (suc (suc k)) v ≡ digits (suc k) v
@@ -35,6 +35,10 @@ digits-length (suc k) v =
 pub decimal-length : (v : ℕ) → length (decimal v) ≤ 20
 unfolding decimal
 decimal-length v = digits-length 20 v
+
+-- a line of a word and a number
+pub line-short : (w : List ℕ) (v : ℕ) → length (line (w ++ decimal v)) ≤ length w + 21
+line-short w v = omega (arith, length-word-line w (decimal v), decimal-length v)
 
 pub decimal-more : (v : ℕ) → 10 ≤ v → v < 2 ^ 64 → decimal v ≡ decimal (v / 10) ++ ((48 + v % 10) ∷ [])
 unfolding decimal
