@@ -17,7 +17,7 @@ use Rattle.text.specs.Parsing.{numberAt, ended, fieldAt, then, upToR, up
 use Rattle.text.specs.declared.number.Parsed.{Parsed}
 use Rattle.text.specs.declared.number.Parsed.the-variants.{Value, Bad}
 use Rattle.text.specs.declared.number.Line.{Line}
-use Rattle.text.specs.declared.number.Line.the-variants.{Of}
+use Rattle.text.specs.declared.number.Line.the-variants.{Of, Unread}
 use Rattle.text.proofs.Numbers.{NumberAt, number-back, number-forth}
 
 -- ---- a field: a number and the byte that ends it
@@ -101,6 +101,13 @@ first-line-forth text g begins =
       read = simp (f1 .read, f2 .read, f3 .read, f4 .read, f5 .read);
       left = f5 .left;
     }
+
+-- where a line is what is left to read from a field on: by that field, or none
+pub then-value : (l : Line) (r p : Parsed) (v k : ℕ) (f : ℕ → ℕ → Line) → l ≡ then p f → r ≡ p → r ≡ Value v k → l ≡ f v k
+then-value l r p v k f e is got = e ∙ ap (λ (q : Parsed). then q f) (sym is ∙ got)
+
+pub then-bad : (l : Line) (r p : Parsed) (f : ℕ → ℕ → Line) → l ≡ then p f → r ≡ p → r ≡ Bad → Unread ≡ l
+then-bad l r p f e is got = sym (e ∙ ap (λ (q : Parsed). then q f) (sym is ∙ got))
 
 -- what was read before a line was
 then-back : (p : Parsed) (f : ℕ → ℕ → Line) (g : Geometry) (e : ℕ) → then p f ≡ Of g e → (v : ℕ) × (k : ℕ) × (p ≡ Value v k) × (f v k ≡ Of g e)

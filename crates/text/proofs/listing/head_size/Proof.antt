@@ -1,20 +1,15 @@
 -- `text::listing::head_size` meets its contract: three lines, each its word, its number and its end. Assumes nothing.
-use mathlib.Core.Path.{_≡_, ap, _∙_}
-use mathlib.Core.List.{List, _++_}
-use Prim.Native.Nat.{ℕ, _+_}
+use mathlib.Core.Path.{_≡_, _∙_}
+use Prim.Native.Nat.{_+_}
 use native.Mathlib.Omega.{arith}
 use borrow.Author.Needs.{needs}
 use lib.ListN.{length}
-use Rattle.text.specs.Lines.{line, decimal}
 use Rattle.text.specs.Listing.{passesWord, stepsWord, resultWord}
 use Rattle.text.specs.Written.{headLines}
+use Rattle.text.proofs.Decimal.{same-size}
 use Rattle.text.proofs.Passes.{head-long, head-small, sound-total}
 use Rattle.text.proofs.listing.head_size.Statement.{statement}
 use Rattle.text.proofs.listing.head_size.Tie as tie
-
--- a line's size for a number's worth
-same-line : (w : List ℕ) (r u v : ℕ) → r ≡ length (line (w ++ decimal u)) → u ≡ v → r ≡ length (line (w ++ decimal v))
-same-line w r u v e f = e ∙ ap (λ (k : ℕ). length (line (w ++ decimal k))) f
 
 -- the sum is the length of the three lines
 whole : (c : tie.After-line-size3)
@@ -24,9 +19,9 @@ whole c =
     omega (
       arith,
       head-long plan,
-      same-line passesWord _ _ (plan .count) (c .before .before .before .before .before .before .before .line-size .ensures) (c .before .before .before .before .before .before .before .before .wide .ensures),
-      same-line stepsWord _ _ _ (c .before .before .before .before .line-size2 .ensures) (c .before .before .before .before .before .total-steps .ensures ∙ sound-total plan (c .before .before .before .before .before .before .before .before .before .before .pre)),
-      same-line resultWord _ _ _ (c .line-size3 .ensures) (c .before .wide2 .ensures ∙ c .before .before .result-area .ensures),
+      c .before .before .before .before .before .before .before .line-size .ensures ∙ same-size passesWord _ (plan .count) (c .before .before .before .before .before .before .before .before .wide .ensures),
+      c .before .before .before .before .line-size2 .ensures ∙ same-size stepsWord _ _ (c .before .before .before .before .before .total-steps .ensures ∙ sound-total plan (c .before .before .before .before .before .before .before .before .before .before .pre)),
+      c .line-size3 .ensures ∙ same-size resultWord _ _ (c .before .wide2 .ensures ∙ c .before .before .result-area .ensures),
     )
 
 slice-aggregate-line-size : tie.Need-slice-aggregate-line-size

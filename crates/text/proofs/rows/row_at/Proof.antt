@@ -1,6 +1,6 @@
 -- `text::rows::row_at` meets its contract: the characters from place i on are the bits read so far; a row has a digit below 2 at each place, and LF after.
 -- Assumes nothing.
-use mathlib.Core.Path.{_≡_}
+use mathlib.Core.Path.{_≡_, ap, _∙_}
 use mathlib.Core.List.{_++_}
 use Prim.Native.Nat.{_+_, _-_, _^_, _<_, _≤_}
 use native.Mathlib.Omega.{arith}
@@ -57,8 +57,7 @@ returns-4 c =
     λ v rest e.
     let a = c .before .before .before .before .before .before .before .before .before .args in
     let i = c .before .before .before .loop .i in
-    let place : a .at + i - 1 ≡ a .at + (i - 1) = omega arith in
-    let read : c .before .digit-at .result ≡ digitAt (a .text .now) (a .at + (i - 1)) = cc (c .before .digit-at .ensures, place) in
+    let read : c .before .digit-at .result ≡ digitAt (a .text .now) (a .at + (i - 1)) = c .before .digit-at .ensures ∙ ap (digitAt (a .text .now)) (omega arith) in
     omega (arith, row-digit (a .text .now) (a .at) (a .n) v rest e (i - 1) (omega arith))
 
 mul-v : tie.Need-mul-v Inv-loop μ-loop
@@ -85,8 +84,7 @@ loop-again c =
     let l = c .before .before .before .loop in
     let d = c .before .digit-at in
     let some : 0 < l .i = omega arith in
-    let place : a .at + l .i - 1 ≡ a .at + (l .i - 1) = omega arith in
-    let read : d .result ≡ digitAt (a .text .now) (a .at + (l .i - 1)) = cc (d .ensures, place) in
+    let read : d .result ≡ digitAt (a .text .now) (a .at + (l .i - 1)) = d .ensures ∙ ap (digitAt (a .text .now)) (omega arith) in
     let digit : d .result < 2 = omega arith in (
       omega arith,
       turn-low (a .text .now) (a .at) (a .n) (l .i) (l .v) (d .result) some (l .inv .0) (l .inv .1) (l .inv .2) read digit,

@@ -2,9 +2,9 @@
 use mathlib.Core.Path.{_≡_, refl, sym, ap, _∙_}
 use Prim.Native.Nat.{ℕ, _+_, _-_, _/_, _%_, _≤_}
 use native.Mathlib.Omega.{arith}
-use lib.ListN.{length, length-set}
+use lib.ListN.{length, set, length-set}
 use Rattle.text.specs.Lines.{bits}
-use Rattle.text.specs.Written.{Wrote}
+use Rattle.text.specs.Written.{put, Wrote}
 use Rattle.text.proofs.RowLines.{length-bits}
 use Rattle.text.proofs.Bits.{shifted, shifted-more, bits-more}
 use Rattle.text.proofs.Put.{wrote-none, wrote-byte}
@@ -52,12 +52,14 @@ loop-again c =
     let a = c .before .before .args in
     let k = a .n - l .i in
     let next : a .n - (l .i - 1) ≡ k + 1 = omega arith in
-    let place : a .at + a .n - l .i ≡ a .at + k = omega arith in
     let w = wrote-byte (a .room .now) (a .at) (bits k (a .v)) (l .room) (a .at + k) (l .inv .3) (48 + l .x % 2) (omega (arith, length-bits k (a .v))) in (
       omega arith,
       simp length-set (l .inv .1),
       ap (λ (x : ℕ). x / 2) (l .inv .2) ∙ sym (shifted-more (a .v) k) ∙ ap (shifted (a .v)) (sym next),
-      record { place = omega (arith, w .place, length-bits k (a .v), length-bits (a .n - (l .i - 1)) (a .v)); is = cc (w .is, place, next, bits-more (a .v) k, l .inv .2) },
+      record {
+        place = omega (arith, length-bits (a .n - (l .i - 1)) (a .v));
+        is = ap (λ (p : ℕ). set (l .room) p (48 + l .x % 2)) (omega arith) ∙ w .is ∙ ap (put (a .room .now) (a .at)) (rw (next, bits-more (a .v) k, ← l .inv .2) refl);
+      },
     )
 
 add-result : tie.Need-add-result Inv-loop μ-loop
