@@ -145,11 +145,15 @@ first-line-back text g e h =
     let f3 = field-back text (s2 .1) 32 (s3 .0) (s3 .1) (s3 .2) in
     let f4 = field-back text (s3 .1) 32 (s4 .0) (s4 .1) (s4 .2) in
     let f5 = field-back text (s4 .1) 10 (s5 .0) (s5 .1) (s5 .2) in
-    let q : record { n = s1 .0; b = s2 .0; d = s3 .0; m = s4 .0; r = s5 .0 } ≡ g = cc (s5 .3) in
+    let read : Geometry = record { n = s1 .0; b = s2 .0; d = s3 .0; m = s4 .0; r = s5 .0 } in
+    let q : read ≡ g = cc (s5 .3) in
     let k : s5 .1 ≡ e = cc (s5 .3) in
     record {
-      begins = subst (Begins text) q (begun text (s1 .0) (s2 .0) (s3 .0) (s4 .0) (s5 .0) (s1 .1) (s2 .1) (s3 .1) (s4 .1) (s5 .1) f1 f2 f3 f4 f5);
-      is = five-fields text (s1 .0) (s2 .0) (s3 .0) (s4 .0) (s5 .0) (s1 .1) (s2 .1) (s3 .1) (s4 .1) (s5 .1) f1 f2 f3 f4 f5 ∙ rw (q, k);
+      begins = subst (Begins text) {x = read} q (begun text (s1 .0) (s2 .0) (s3 .0) (s4 .0) (s5 .0) (s1 .1) (s2 .1) (s3 .1) (s4 .1) (s5 .1) f1 f2 f3 f4 f5);
+      is =
+          _∙_ {b = firstLine read ++ drop (s5 .1) text}
+          (five-fields text (s1 .0) (s2 .0) (s3 .0) (s4 .0) (s5 .0) (s1 .1) (s2 .1) (s3 .1) (s4 .1) (s5 .1) f1 f2 f3 f4 f5)
+          (rw (q, k));
     }
 
 -- one first line only

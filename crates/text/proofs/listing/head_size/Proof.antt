@@ -4,6 +4,7 @@ use Prim.Native.Nat.{_+_}
 use native.Mathlib.Omega.{arith}
 use borrow.Author.Needs.{needs}
 use lib.ListN.{length}
+use Rattle.planning.specs.declared.Plan.{Plan}
 use Rattle.text.specs.Listing.{passesWord, stepsWord, resultWord}
 use Rattle.text.specs.Written.{headLines}
 use Rattle.text.proofs.Decimal.{same-size}
@@ -11,16 +12,23 @@ use Rattle.text.proofs.Passes.{head-long, head-small, sound-total}
 use Rattle.text.proofs.listing.head_size.Statement.{statement}
 use Rattle.text.proofs.listing.head_size.Tie as tie
 
+abbrev plan-of : tie.After-line-size3 → Plan
+plan-of c = c .before .before .before .before .before .before .before .before .before .before .args .plan
+
 -- the sum is the length of the three lines
-whole : (c : tie.After-line-size3)
-    → c .before .before .before .before .before .before .before .line-size .result + c .before .before .before .before .line-size2 .result + c .line-size3 .result ≡ length (headLines (c .before .before .before .before .before .before .before .before .before .before .args .plan))
+whole : (c : tie.After-line-size3) →
+    let one = c .before .before .before .before .before .before .before in
+    let two = c .before .before .before .before in
+    one .line-size .result + two .line-size2 .result + c .line-size3 .result ≡ length (headLines (plan-of c))
 whole c =
-    let plan = c .before .before .before .before .before .before .before .before .before .before .args .plan in
+    let one = c .before .before .before .before .before .before .before in
+    let two = c .before .before .before .before in
+    let steps = two .before .total-steps .ensures ∙ sound-total (plan-of c) (one .before .before .before .pre) in
     omega (
       arith,
-      head-long plan,
-      c .before .before .before .before .before .before .before .line-size .ensures ∙ same-size passesWord _ (plan .count) (c .before .before .before .before .before .before .before .before .wide .ensures),
-      c .before .before .before .before .line-size2 .ensures ∙ same-size stepsWord _ _ (c .before .before .before .before .before .total-steps .ensures ∙ sound-total plan (c .before .before .before .before .before .before .before .before .before .before .pre)),
+      head-long (plan-of c),
+      one .line-size .ensures ∙ same-size passesWord _ _ (one .before .wide .ensures),
+      two .line-size2 .ensures ∙ same-size stepsWord _ _ steps,
       c .line-size3 .ensures ∙ same-size resultWord _ _ (c .before .wide2 .ensures ∙ c .before .before .result-area .ensures),
     )
 
@@ -55,10 +63,10 @@ line-size-requires-3 : tie.Need-line-size-requires-3
 line-size-requires-3 c κs = search needs
 
 add-result : tie.Need-add-result
-add-result c = omega (arith, whole c, head-small (c .before .before .before .before .before .before .before .before .before .before .args .plan))
+add-result c = omega (arith, whole c, head-small (plan-of c))
 
 add-result-2 : tie.Need-add-result-2
-add-result-2 c = omega (arith, whole c, head-small (c .before .before .before .before .before .before .before .before .before .before .args .plan))
+add-result-2 c = omega (arith, whole c, head-small (plan-of c))
 
 returns : tie.Need-returns
 returns c = whole c

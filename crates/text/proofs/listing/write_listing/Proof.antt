@@ -25,7 +25,9 @@ sized k =
     let parts = ap length (listing-parts plan (can-run (k .before .before))) ∙ length-append (headLines plan) (tailLines plan) in
     omega (arith, k .before .head-size .ensures, k .tail-size .ensures)
 
-roomy : (k : tie.Else2) → length (headLines (k .before .before .before .before .before .before .args .plan)) + length (tailLines (k .before .before .before .before .before .before .args .plan)) ≤ length (k .before .before .before .before .before .before .args .room .now)
+roomy : (k : tie.Else2) →
+    let a = k .before .before .before .before .before .before .args in
+    length (headLines (a .plan)) + length (tailLines (a .plan)) ≤ length (a .room .now)
 roomy k = omega (arith, k .before .before .head-size .ensures, k .before .tail-size .ensures)
 
 is-sound-requires : tie.Need-is-sound-requires

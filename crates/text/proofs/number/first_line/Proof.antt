@@ -10,33 +10,38 @@ use Rattle.text.proofs.number.first_line.Statement.{statement}
 use Rattle.text.proofs.number.first_line.Tie as tie
 
 -- ---- what is left to read once a field is read
-abbrev text-of : tie.Start → List ℕ
-text-of c = c .args .text .now
+abbrev text-of : tie.After-n → List ℕ
+text-of c = c .before .before .before .before .args .text .now
 
-line-n : (c : tie.After-n)
-    → firstLineAt (text-of (c .before .before .before .before))
-    ≡ upToB (text-of (c .before .before .before .before)) (c .n .given .0 .0) (c .n .given .0 .1 .0)
+line-n : (c : tie.After-n) →
+    firstLineAt (text-of c) ≡ upToB (text-of c) (c .n .given .0 .0) (c .n .given .0 .1 .0)
 unfolding firstLineAt
 line-n c = then-value _ _ _ _ _ _ refl (c .before .before .field .ensures) (c .n .given .1)
 
-line-b : (c : tie.After-b)
-    → firstLineAt (text-of (c .before .before .before .before .before .before .before .before))
-    ≡ upToD (text-of (c .before .before .before .before .before .before .before .before)) (c .before .before .before .before .n .given .0 .0) (c .b .given .0 .0) (c .b .given .0 .1 .0)
+line-b : (c : tie.After-b) →
+    let at-n = c .before .before .before .before in
+    firstLineAt (text-of at-n) ≡ upToD (text-of at-n) (at-n .n .given .0 .0) (c .b .given .0 .0) (c .b .given .0 .1 .0)
 line-b c = then-value _ _ _ _ _ _ (line-n (c .before .before .before .before)) (c .before .before .field2 .ensures) (c .b .given .1)
 
-line-d : (c : tie.After-d)
-    → firstLineAt (text-of (c .before .before .before .before .before .before .before .before .before .before .before .before))
-    ≡ upToM (text-of (c .before .before .before .before .before .before .before .before .before .before .before .before)) (c .before .before .before .before .before .before .before .before .n .given .0 .0) (c .before .before .before .before .b .given .0 .0) (c .d .given .0 .0) (c .d .given .0 .1 .0)
+line-d : (c : tie.After-d) →
+    let at-b = c .before .before .before .before in
+    let at-n = at-b .before .before .before .before in
+    firstLineAt (text-of at-n) ≡ upToM (text-of at-n) (at-n .n .given .0 .0) (at-b .b .given .0 .0) (c .d .given .0 .0) (c .d .given .0 .1 .0)
 line-d c = then-value _ _ _ _ _ _ (line-b (c .before .before .before .before)) (c .before .before .field3 .ensures) (c .d .given .1)
 
-line-m : (c : tie.After-m)
-    → firstLineAt (text-of (c .before .before .before .before .before .before .before .before .before .before .before .before .before .before .before .before))
-    ≡ upToR (text-of (c .before .before .before .before .before .before .before .before .before .before .before .before .before .before .before .before)) (c .before .before .before .before .before .before .before .before .before .before .before .before .n .given .0 .0) (c .before .before .before .before .before .before .before .before .b .given .0 .0) (c .before .before .before .before .d .given .0 .0) (c .m .given .0 .0) (c .m .given .0 .1 .0)
+line-m : (c : tie.After-m) →
+    let at-d = c .before .before .before .before in
+    let at-b = at-d .before .before .before .before in
+    let at-n = at-b .before .before .before .before in
+    firstLineAt (text-of at-n) ≡ upToR (text-of at-n) (at-n .n .given .0 .0) (at-b .b .given .0 .0) (at-d .d .given .0 .0) (c .m .given .0 .0) (c .m .given .0 .1 .0)
 line-m c = then-value _ _ _ _ _ _ (line-d (c .before .before .before .before)) (c .before .before .field4 .ensures) (c .m .given .1)
 
-line-r : (c : tie.After-r)
-    → firstLineAt (text-of (c .before .before .before .before .before .before .before .before .before .before .before .before .before .before .before .before .before .before .before .before))
-    ≡ Of (record { n = c .before .before .before .before .before .before .before .before .before .before .before .before .before .before .before .before .n .given .0 .0; b = c .before .before .before .before .before .before .before .before .before .before .before .before .b .given .0 .0; d = c .before .before .before .before .before .before .before .before .d .given .0 .0; m = c .before .before .before .before .m .given .0 .0; r = c .r .given .0 .0 }) (c .r .given .0 .1 .0)
+line-r : (c : tie.After-r) →
+    let at-m = c .before .before .before .before in
+    let at-d = at-m .before .before .before .before in
+    let at-b = at-d .before .before .before .before in
+    let at-n = at-b .before .before .before .before in
+    firstLineAt (text-of at-n) ≡ Of (record { n = at-n .n .given .0 .0; b = at-b .b .given .0 .0; d = at-d .d .given .0 .0; m = at-m .m .given .0 .0; r = c .r .given .0 .0 }) (c .r .given .0 .1 .0)
 line-r c = then-value _ _ _ _ _ _ (line-m (c .before .before .before .before)) (c .before .before .field5 .ensures) (c .r .given .1)
 
 -- ---- the needs

@@ -52,8 +52,9 @@ rest-at-requires c κs = limits→allowed _ (inside c) .n-high
 returns-3 : tie.Need-returns-3
 returns-3 c =
     let k = c .before .before .before in
+    let a = k .before .before .before .before .before .before .before .args in
     let r = c .before .before .rest-at in
-    reads-no-rest (k .before .before .before .before .before .before .before .args .text .now) _ _ _ _ (line-is (k .before .before .before)) (inside k) (r .result .number) refl (c .if2 .taken) (r .ensures)
+    reads-no-rest (a .text .now) _ _ _ _ (line-is (k .before .before .before)) (inside k) (r .result .number) refl (c .if2 .taken) (r .ensures)
 
 cast-n : tie.Need-cast-n
 cast-n c = search needs
@@ -67,17 +68,19 @@ refused-requires-3 c κs = search needs
 returns-4 : tie.Need-returns-4
 returns-4 c =
     let k = c .before .before .before .before .before .before .before .before .before .before in
+    let a = k .before .before .before .before .before .before .before .args in
     let r = c .before .before .before .before .before .before .before .before .before .rest-at in
     let t = c .before .before .is-singular in
-    reads-singular (k .before .before .before .before .before .before .before .args .text .now) _ _ _ _ (line-is (k .before .before .before)) (inside k) (r .result .order) (r .result .number)
+    reads-singular (a .text .now) _ _ _ _ (line-is (k .before .before .before)) (inside k) (r .result .order) (r .result .number)
     (c .before .before .before .before .before .before .before .if2 .left) (r .ensures) (t .result) (t .ensures) (c .before .if3 .taken) (c .refused3 .ensures .0) (c .refused3 .ensures .1)
 
 returns-5 : tie.Need-returns-5
 returns-5 c =
     let k = c .before .before .before .before .before .before .before .before .before in
+    let a = k .before .before .before .before .before .before .before .args in
     let r = c .before .before .before .before .before .before .before .before .rest-at in
     let t = c .before .is-singular in
-    reads-taken (k .before .before .before .before .before .before .before .args .text .now) _ _ _ _ (line-is (k .before .before .before)) (inside k) (r .result .order) (r .result .number)
+    reads-taken (a .text .now) _ _ _ _ (line-is (k .before .before .before)) (inside k) (r .result .order) (r .result .number)
     (c .before .before .before .before .before .before .if2 .left) (r .ensures) (t .result) (t .ensures) (c .if3 .left) (c .before .before .before .before .before .before .if2 .left) refl
 
 pub read-order-spec : {M : Type 1} → statement M

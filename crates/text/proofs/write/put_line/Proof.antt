@@ -19,22 +19,27 @@ put-decimal-requires c κs =
 slice-write-room : tie.Need-slice-write-room
 slice-write-room c =
     let a = c .before .before .before .before .before .before .before .before .before .before .args in
-    line-inside (a .room .now) (a .at) (a .word .now) (decimal (a .v)) _ _ _ _ (c .before .before .before .before .before .before .put-word .ensures) (c .before .before .put-decimal .ensures) (omega arith)
+    let word = c .before .before .before .before .before .before .put-word .ensures in
+    line-inside (a .room .now) (a .at) (a .word .now) (decimal (a .v)) _ _ _ _ word (c .before .before .put-decimal .ensures) (omega arith)
 
 add-result : tie.Need-add-result
 add-result c =
     let a = c .before .before .before .before .before .before .before .before .before .before .args in
-    omega (arith, c .before .before .before .before .before .before .put-word .ensures .place, c .before .before .put-decimal .ensures .place, length-word-line (a .word .now) (decimal (a .v)))
+    let word = c .before .before .before .before .before .before .put-word .ensures in
+    let number = c .before .before .put-decimal .ensures in
+    omega (arith, word .place, number .place, length-word-line (a .word .now) (decimal (a .v)))
 
 same-length : tie.Need-same-length
 same-length c =
     let a = c .before .before .before .before .before .before .before .before .before .before .args in
-    simp length-set (line-length (a .room .now) (a .at) (a .word .now) (decimal (a .v)) _ _ _ _ (c .before .before .before .before .before .before .put-word .ensures) (c .before .before .put-decimal .ensures) (omega arith))
+    let word = c .before .before .before .before .before .before .put-word .ensures in
+    simp length-set (line-length (a .room .now) (a .at) (a .word .now) (decimal (a .v)) _ _ _ _ word (c .before .before .put-decimal .ensures) (omega arith))
 
 returns : tie.Need-returns
 returns c =
     let a = c .before .before .before .before .before .before .before .before .before .before .args in
-    line-wrote (a .room .now) (a .at) (a .word .now) (decimal (a .v)) _ _ _ _ (c .before .before .before .before .before .before .put-word .ensures) (c .before .before .put-decimal .ensures) (omega arith)
+    let word = c .before .before .before .before .before .before .put-word .ensures in
+    line-wrote (a .room .now) (a .at) (a .word .now) (decimal (a .v)) _ _ _ _ word (c .before .before .put-decimal .ensures) (omega arith)
 
 pub put-line-spec : {M : Type 1} → statement M
 put-line-spec =
