@@ -1,5 +1,5 @@
 -- Which digits has a number of up to 64 bits? Assumes nothing.
-use mathlib.Core.Path.{_≡_, sym, ap, _∙_}
+use mathlib.Core.Path.{_≡_, sym, ap, _∙_, subst}
 use mathlib.Core.Logic.{⊎-elim}
 use mathlib.Core.List.{List, [], _∷_, _++_, append-assoc, append-nil}
 use Prim.Native.Nat.{ℕ, zero, suc, _+_, _-_, _/_, _%_, _^_, _<_, _≤_}
@@ -7,10 +7,10 @@ use native.Mathlib.Omega.{arith}
 use native.Mathlib.Nat.{pow-suc, pow-zero}
 use lib.ListN.{length, set, length-append}
 use Rattle.algebra.proofs.Search.{le-or-lt}
-use Rattle.text.specs.Lines.{digits, decimal}
+use Rattle.text.specs.Lines.{line, digits, decimal}
 use Rattle.text.specs.Written.{put, Wrote}
 use Rattle.text.proofs.Numbers.{digits-last, digits-more, decimal-one}
-use Rattle.text.proofs.Put.{put-nil, put-before, length-put}
+use Rattle.text.proofs.Put.{put-nil, put-before, length-put, length-word-line}
 
 -- once there are digits enough, more places change nothing
 digits-enough : (k v : ℕ) → v < 10 ^ suc k → digits (suc (suc k)) v ≡ digits (suc k) v
@@ -36,6 +36,18 @@ pub decimal-length : (v : ℕ) → length (decimal v) ≤ 20
 unfolding decimal
 decimal-length v = digits-length 20 v
 
+-- a line of a word and a number
+pub line-short : (w : List ℕ) (v : ℕ) → length (line (w ++ decimal v)) ≤ length w + 21
+line-short w v = omega (arith, length-word-line w (decimal v), decimal-length v)
+
+-- by what its number is
+pub same-size : (w : List ℕ) (u v : ℕ) → u ≡ v → length (line (w ++ decimal u)) ≡ length (line (w ++ decimal v))
+same-size w u v e = ap (λ (k : ℕ). length (line (w ++ decimal k))) e
+
+pub wrote-as : (room : List ℕ) (at : ℕ) (w : List ℕ) (u v : ℕ) (after : List ℕ) (past : ℕ) → Wrote room at (line (w ++ decimal u)) after past → u ≡ v
+    → Wrote room at (line (w ++ decimal v)) after past
+wrote-as room at w u v after past h e = subst (λ (k : ℕ). Wrote room at (line (w ++ decimal k)) after past) e h
+
 pub decimal-more : (v : ℕ) → 10 ≤ v → v < 2 ^ 64 → decimal v ≡ decimal (v / 10) ++ ((48 + v % 10) ∷ [])
 unfolding decimal
 decimal-more v g h = digits-more 19 v g ∙ ap (λ (l : List ℕ). l ++ ((48 + v % 10) ∷ [])) (sym (digits-enough 18 (v / 10) (omega arith)))
@@ -56,18 +68,21 @@ module _ (room : List ℕ) (at v : ℕ) (fits : at + length (decimal v) ≤ leng
   partly-none end e = record { low = omega arith; t = []; split = sym (append-nil (decimal v)); place = e; is = sym (put-nil room end) }
 
   module _ (after : List ℕ) (i x : ℕ) (p : Partly room at v after i x) where
-    pub partly-fits : i + length (p .t) ≡ at + length (decimal v)
+    partly-fits : i + length (p .t) ≡ at + length (decimal v)
     partly-fits = omega (arith, p .place, ap length (p .split), length-append (decimal x) (p .t))
 
     pub partly-length : length after ≡ length room
     partly-length = ap length (p .is) ∙ length-put room i (p .t) (omega (arith, partly-fits))
 
-    pub partly-some : 0 < length (decimal x)
+    partly-some : 0 < length (decimal x)
     partly-some =
         ⊎-elim
         (λ (g : 10 ≤ x). omega (arith, decimal-longer x g (omega (arith, p .low))))
         (λ (g : x < 10). omega (arith, ap length (decimal-one x g)))
         (le-or-lt 10 x)
+
+    pub partly-inside : (at < i) × (i ≤ length after)
+    partly-inside = (omega (arith, p .place, partly-some), omega (arith, partly-fits, partly-length))
 
     pub partly-more : 10 ≤ x → Partly room at v (set after (i - 1) (48 + x % 10)) (i - 1) (x / 10)
     partly-more g =

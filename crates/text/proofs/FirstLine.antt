@@ -17,7 +17,7 @@ use Rattle.text.specs.Parsing.{numberAt, ended, fieldAt, then, upToR, up
 use Rattle.text.specs.declared.number.Parsed.{Parsed}
 use Rattle.text.specs.declared.number.Parsed.the-variants.{Value, Bad}
 use Rattle.text.specs.declared.number.Line.{Line}
-use Rattle.text.specs.declared.number.Line.the-variants.{Of}
+use Rattle.text.specs.declared.number.Line.the-variants.{Of, Unread}
 use Rattle.text.proofs.Numbers.{NumberAt, number-back, number-forth}
 
 -- ---- a field: a number and the byte that ends it
@@ -102,6 +102,13 @@ first-line-forth text g begins =
       left = f5 .left;
     }
 
+-- where a line is what is left to read from a field on: by that field, or none
+pub then-value : (l : Line) (r p : Parsed) (v k : ℕ) (f : ℕ → ℕ → Line) → l ≡ then p f → r ≡ p → r ≡ Value v k → l ≡ f v k
+then-value l r p v k f e is got = e ∙ ap (λ (q : Parsed). then q f) (sym is ∙ got)
+
+pub then-bad : (l : Line) (r p : Parsed) (f : ℕ → ℕ → Line) → l ≡ then p f → r ≡ p → r ≡ Bad → Unread ≡ l
+then-bad l r p f e is got = sym (e ∙ ap (λ (q : Parsed). then q f) (sym is ∙ got))
+
 -- what was read before a line was
 then-back : (p : Parsed) (f : ℕ → ℕ → Line) (g : Geometry) (e : ℕ) → then p f ≡ Of g e → (v : ℕ) × (k : ℕ) × (p ≡ Value v k) × (f v k ≡ Of g e)
 then-back Bad f g e h = let y : _≡_ {A = ℕ} 0 1 = cc in absurd (omega arith)
@@ -138,11 +145,15 @@ first-line-back text g e h =
     let f3 = field-back text (s2 .1) 32 (s3 .0) (s3 .1) (s3 .2) in
     let f4 = field-back text (s3 .1) 32 (s4 .0) (s4 .1) (s4 .2) in
     let f5 = field-back text (s4 .1) 10 (s5 .0) (s5 .1) (s5 .2) in
-    let q : record { n = s1 .0; b = s2 .0; d = s3 .0; m = s4 .0; r = s5 .0 } ≡ g = cc (s5 .3) in
+    let read : Geometry = record { n = s1 .0; b = s2 .0; d = s3 .0; m = s4 .0; r = s5 .0 } in
+    let q : read ≡ g = cc (s5 .3) in
     let k : s5 .1 ≡ e = cc (s5 .3) in
     record {
-      begins = subst (Begins text) q (begun text (s1 .0) (s2 .0) (s3 .0) (s4 .0) (s5 .0) (s1 .1) (s2 .1) (s3 .1) (s4 .1) (s5 .1) f1 f2 f3 f4 f5);
-      is = five-fields text (s1 .0) (s2 .0) (s3 .0) (s4 .0) (s5 .0) (s1 .1) (s2 .1) (s3 .1) (s4 .1) (s5 .1) f1 f2 f3 f4 f5 ∙ rw (q, k);
+      begins = subst (Begins text) {x = read} q (begun text (s1 .0) (s2 .0) (s3 .0) (s4 .0) (s5 .0) (s1 .1) (s2 .1) (s3 .1) (s4 .1) (s5 .1) f1 f2 f3 f4 f5);
+      is =
+          _∙_ {b = firstLine read ++ drop (s5 .1) text}
+          (five-fields text (s1 .0) (s2 .0) (s3 .0) (s4 .0) (s5 .0) (s1 .1) (s2 .1) (s3 .1) (s4 .1) (s5 .1) f1 f2 f3 f4 f5)
+          (rw (q, k));
     }
 
 -- one first line only

@@ -13,7 +13,7 @@ use Rattle.order.specs.Order.{matrixOf}
 use Rattle.order.proofs.Judged.{singular-three, regular-none}
 use Rattle.text.specs.Lines.{line, bits, rowLines}
 use Rattle.text.specs.OrderText.{firstLine, orderText}
-use Rattle.text.specs.Reading.{Begins, Whole, Reads, noOrder, no-first-line, outside, no-rest, singular as singular-read, taken}
+use Rattle.text.specs.Reading.{Whole, Reads, noOrder, no-first-line, outside, no-rest, singular as singular-read, taken}
 use Rattle.text.specs.Parsing.{firstLineAt}
 use Rattle.text.specs.Found.{RestFound, RestIf}
 use Rattle.text.specs.declared.number.Line.the-variants.{Of, Unread}

@@ -74,12 +74,3 @@ only-text-at text k order (taken g q b i w j) e = w .is
 
 pub only-text : (text : List ℕ) (order : Order) → Reads text 0 order → text ≡ orderText order
 only-text text order r = only-text-at text 0 order r refl
-
--- an order is read from one text only
-pub one-text : (s t : List ℕ) (order : Order) → Reads s 0 order → Reads t 0 order → s ≡ t
-one-text s t order p q = only-text s order p ∙ sym (only-text t order q)
-
--- two orders that are taken have two texts
-pub two-texts : (o p : Order) → judgement o ≡ 0 → judgement p ≡ 0 → length (o .rows) ≡ ROWS → length (p .rows) ≡ ROWS → orderText o ≡ orderText p → o ≡ p
-two-texts o p e f r s same =
-    one-reading (orderText o) 0 0 o p (read-written o e r) (subst (λ (t : List ℕ). Reads t 0 p) (sym same) (read-written p f s)) .1

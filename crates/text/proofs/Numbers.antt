@@ -150,17 +150,17 @@ unfolding digitAt
 digit-there s at i d t e h = ap digitOf (sym (getD-drop at s i 0) ∙ ap (λ (l : List ℕ). getD l i 0) e) ∙ h
 
 module _ (s : List ℕ) (at : ℕ) where
-  read-one : (a : ℕ) → a < 10 → digitAt s at ≡ a → digitAt s (at + 1) ≡ 10 → numberAt s at ≡ Value a (at + 1)
+  pub read-one : (a b : ℕ) → a < 10 → 10 ≤ b → digitAt s at ≡ a → digitAt s (at + 1) ≡ b → numberAt s at ≡ Value a (at + 1)
   unfolding numberAt
-  read-one zero h p q = rw p
-  read-one (suc a) h p q = rw (p, q, lt-leb 10 (suc a) h, ne-eqb (suc a) 0 (omega arith))
+  read-one zero b h i p q = rw p
+  read-one (suc a) b h i p q = rw (p, q, lt-leb 10 (suc a) h, ne-eqb (suc a) 0 (omega arith), le-leb 10 b i)
 
-  read-two : (a b : ℕ) → 1 ≤ a → a < 10 → b < 10 → digitAt s at ≡ a → digitAt s (at + 1) ≡ b → digitAt s (at + 2) ≡ 10
+  pub read-two : (a b c : ℕ) → 1 ≤ a → a < 10 → b < 10 → 10 ≤ c → digitAt s at ≡ a → digitAt s (at + 1) ≡ b → digitAt s (at + 2) ≡ c
       → numberAt s at ≡ Value (a * 10 + b) (at + 2)
   unfolding numberAt
-  read-two a b g h i p q r = rw (p, q, r, lt-leb 10 a h, ne-eqb a 0 (omega arith), lt-leb 10 b i)
+  read-two a b c g h i j p q r = rw (p, q, r, lt-leb 10 a h, ne-eqb a 0 (omega arith), lt-leb 10 b i, le-leb 10 c j)
 
-  read-three : (a b c : ℕ) → 1 ≤ a → a < 10 → b < 10 → c < 10 → digitAt s at ≡ a → digitAt s (at + 1) ≡ b → digitAt s (at + 2) ≡ c
+  pub read-three : (a b c : ℕ) → 1 ≤ a → a < 10 → b < 10 → c < 10 → digitAt s at ≡ a → digitAt s (at + 1) ≡ b → digitAt s (at + 2) ≡ c
       → numberAt s at ≡ Value (a * 100 + b * 10 + c) (at + 3)
   unfolding numberAt
   read-three a b c g h i j p q r = rw (p, q, r, lt-leb 10 a h, ne-eqb a 0 (omega arith), lt-leb 10 b i, lt-leb 10 c j)
@@ -175,7 +175,7 @@ module _ (s : List ℕ) (at v end : ℕ) (rest : List ℕ) (low : end < 48) (is 
   forth-one : v < 10 → numberAt s at ≡ Value v (at + length (decimal v))
   forth-one h =
       let e = decimal-one v h in
-      rw e (read-one s at v h (first v ((48 + v) ∷ []) e (digit-of v h)) (there 1 10 ((48 + v) ∷ []) e (no-digit end low)))
+      rw e (read-one s at v 10 h (omega arith) (first v ((48 + v) ∷ []) e (digit-of v h)) (there 1 10 ((48 + v) ∷ []) e (no-digit end low)))
 
   forth-two : 10 ≤ v → v < 100 → numberAt s at ≡ Value v (at + length (decimal v))
   forth-two g h =
@@ -186,7 +186,7 @@ module _ (s : List ℕ) (at v end : ℕ) (rest : List ℕ) (low : end < 48) (is 
       let i : a < 10 = omega arith in
       let j : b < 10 = omega arith in
       let e = decimal-two v a b (omega arith) i j k in
-      rw e (read-two s at a b (omega arith) i j (first a t e (digit-of a i)) (there 1 b t e (digit-of b j)) (there 2 10 t e (no-digit end low)) ∙ rw (← k))
+      rw e (read-two s at a b 10 (omega arith) i j (omega arith) (first a t e (digit-of a i)) (there 1 b t e (digit-of b j)) (there 2 10 t e (no-digit end low)) ∙ rw (← k))
 
   forth-three : 100 ≤ v → v < 1000 → numberAt s at ≡ Value v (at + length (decimal v))
   forth-three g h =
@@ -202,4 +202,8 @@ module _ (s : List ℕ) (at v end : ℕ) (rest : List ℕ) (low : end < 48) (is 
       rw e (read-three s at a b d (omega arith) i j l (first a t e (digit-of a i)) (there 1 b t e (digit-of b j)) (there 2 d t e (digit-of d l)) ∙ rw (← k))
 
   pub number-forth : v < 1000 → numberAt s at ≡ Value v (at + length (decimal v))
-  number-forth short = ⊎-elim (λ (h : 10 ≤ v). ⊎-elim (λ (i : 100 ≤ v). forth-three i short) (λ (i : v < 100). forth-two h i) (le-or-lt 100 v)) (λ (h : v < 10). forth-one h) (le-or-lt 10 v)
+  number-forth short =
+      ⊎-elim
+      (λ (h : 10 ≤ v). ⊎-elim (λ (i : 100 ≤ v). forth-three i short) (λ (i : v < 100). forth-two h i) (le-or-lt 100 v))
+      (λ (h : v < 10). forth-one h)
+      (le-or-lt 10 v)

@@ -24,8 +24,7 @@ use Rattle.text.specs.Lines.{line, decimal, bits, rowLines}
 use Rattle.text.specs.Listing.{passesWord, stepsWord, resultWord, passWord, passLines, passesLines, listing, written, roomAfter}
 use Rattle.text.specs.Written.{put, Wrote, headLines, passAtLines, tailLines}
 use Rattle.text.proofs.RowLines.{length-line, length-row-lines}
-use Rattle.text.proofs.Decimal.{decimal-length}
-use Rattle.text.proofs.Put.{length-word-line}
+use Rattle.text.proofs.Decimal.{line-short}
 
 -- ---- the passes
 pub passes-append : (n k : ℕ) (ps qs : List Pass) → passesLines n k (ps ++ qs) ≡ passesLines n k ps ++ passesLines n (k + length ps) qs
@@ -39,13 +38,12 @@ passes-one : (n k : ℕ) (p : Pass) → passesLines n k (p ∷ []) ≡ passLines
 unfolding passesLines
 passes-one n k p = append-nil (passLines n k p)
 
-pub length-pass : (n p : ℕ) (pass : Pass) → length (pass .rows) ≡ n → length (passLines n p pass) ≡ 6 + length (decimal p) + (n + 1) * (n + 1)
+pub length-pass : (n p : ℕ) (pass : Pass) → length (pass .rows) ≡ n → length (passLines n p pass) ≡ length (line (passWord ++ decimal p)) + (n + 1) * (n + 1)
 unfolding passLines
 length-pass n p pass h =
     length-append (line (passWord ++ decimal p)) (rowLines n (pass .rows) ++ line (bits n (pass .complement)))
     ∙ omega (
       arith,
-      length-word-line passWord (decimal p),
       length-append (rowLines n (pass .rows)) (line (bits n (pass .complement))),
       length-row-lines n (pass .rows) ∙ ap (λ (k : ℕ). k * (n + 1)) h,
       length-line n (pass .complement),
@@ -53,22 +51,12 @@ length-pass n p pass h =
       ap (λ (k : ℕ). k * (n + 1)) (add-one n),
     )
 
--- the length of the first p passes of n rows each
-unfoldable pub passesSize : ℕ → ℕ → ℕ
-passesSize n zero = 0
-passesSize n (suc p) = passesSize n p + (6 + length (decimal p) + (n + 1) * (n + 1))
-
-pub passes-size-more : (n p : ℕ) → passesSize n (p + 1) ≡ passesSize n p + (6 + length (decimal p) + (n + 1) * (n + 1))
-unfolding passesSize
-passes-size-more n p = rw (add-one p)
-
 pub square-small : (n : ℕ) → n ≤ ROWS → (n + 1) * (n + 1) ≤ (ROWS + 1) * (ROWS + 1)
 square-small n h = mul-le-mul {n₁ = n + 1} {m₁ = n + 1} {n₂ = ROWS + 1} {m₂ = ROWS + 1} (omega arith) (omega arith)
 
-pub passes-size-small : (n p : ℕ) → n ≤ ROWS → passesSize n p ≤ p * (26 + (ROWS + 1) * (ROWS + 1))
-unfolding passesSize
-passes-size-small n zero h = omega arith
-passes-size-small n (suc p) h = omega (arith, passes-size-small n p h, decimal-length p, square-small n h)
+-- the most bytes that a pass has
+abbrev pub passMost : ℕ
+passMost = 26 + (ROWS + 1) * (ROWS + 1)
 
 module _ (plan : Plan) where
   -- the first k passes
@@ -111,15 +99,23 @@ module _ (plan : Plan) where
   pass-long p h fits room =
       length-take-le (plan .geometry .n) (drop (p * ROWS) (plan .rows)) (omega (arith, length-drop (p * ROWS) (plan .rows)))
 
-  pub up-to-length : plan .geometry .n ≤ ROWS → plan .count ≤ PASSES → length (plan .rows) ≡ PASSES * ROWS → (p : ℕ) → p ≤ plan .count → length (upTo p) ≡ passesSize (plan .geometry .n) p
-  unfolding passesSize
-  up-to-length fits few room zero h = ap length up-to-none
-  up-to-length fits few room (suc p) h =
-      ap length (rw (add-one p) at (up-to-more p (omega arith))) ∙ length-append (upTo p) (passLines (plan .geometry .n) p (passOf p))
-      ∙ ap₂ (λ (j k : ℕ). j + k) (up-to-length fits few room p (omega arith)) (length-pass (plan .geometry .n) p (passOf p) (pass-long p (omega arith) fits room))
+  pub up-to-longer : (p : ℕ) → p < plan .count → length (upTo (p + 1)) ≡ length (upTo p) + length (passAtLines plan p)
+  up-to-longer p h = ap length (up-to-more p h) ∙ length-append (upTo p) (passAtLines plan p)
 
-  pub tail-length : plan .geometry .n ≤ ROWS → plan .count ≤ PASSES → length (plan .rows) ≡ PASSES * ROWS → length (tailLines plan) ≡ passesSize (plan .geometry .n) (plan .count)
-  tail-length fits few room = ap length (sym (up-to-all (plan .count) refl)) ∙ up-to-length fits few room (plan .count) (omega arith)
+  module _ (fits : plan .geometry .n ≤ ROWS) (room : length (plan .rows) ≡ PASSES * ROWS) where
+    pub pass-length : (p : ℕ) → p < PASSES → length (passAtLines plan p) ≡ length (line (passWord ++ decimal p)) + (plan .geometry .n + 1) * (plan .geometry .n + 1)
+    pass-length p h = length-pass (plan .geometry .n) p (passOf p) (pass-long p h fits room)
+
+    pub pass-small : (p : ℕ) → p < PASSES → length (passAtLines plan p) ≤ passMost
+    pass-small p h = omega (arith, pass-length p h, line-short passWord p, square-small (plan .geometry .n) fits)
+
+    up-to-small : plan .count ≤ PASSES → (p : ℕ) → p ≤ plan .count → length (upTo p) ≤ p * passMost
+    up-to-small few zero h = omega (arith, ap length up-to-none)
+    up-to-small few (suc p) h =
+        omega (arith, up-to-small few p (omega arith), rw (add-one p) at (up-to-longer p (omega arith)), pass-small p (omega arith))
+
+    pub tail-small : plan .count ≤ PASSES → length (tailLines plan) ≤ PASSES * passMost
+    tail-small few = omega (arith, ap length (up-to-all (plan .count) refl), up-to-small few (plan .count) (omega arith))
 
   -- a pass as code takes it out of the plan
   module _ (p : ℕ) (part : List ℕ) (fits : plan .geometry .n ≤ ROWS) (is : part ≡ take ROWS (drop (p * ROWS) (plan .rows))) where
@@ -144,36 +140,26 @@ sound-total plan e =
     total-inside plan (and-both (inLimits (plan .geometry)) (countInLimits plan) (k .limits) (k .count))
 
 module _ (plan : Plan) where
-  pub head-long : length (headLines plan) ≡ length (line (passesWord ++ decimal (plan .count))) + (length (line (stepsWord ++ decimal (total (routeOf plan)))) + length (line (resultWord ++ decimal (resultArea plan))))
-  unfolding headLines
-  head-long =
-      length-append (line (passesWord ++ decimal (plan .count))) (line (stepsWord ++ decimal (total (routeOf plan))) ++ line (resultWord ++ decimal (resultArea plan)))
-      ∙ ap (λ (k : ℕ). length (line (passesWord ++ decimal (plan .count))) + k) (length-append (line (stepsWord ++ decimal (total (routeOf plan)))) (line (resultWord ++ decimal (resultArea plan))))
+  abbrev pub passesLine : List ℕ
+  passesLine = line (passesWord ++ decimal (plan .count))
 
-  pub length-head : length (headLines plan) ≡ 8 + length (decimal (plan .count)) + 7 + length (decimal (total (routeOf plan))) + 8 + length (decimal (resultArea plan))
-  length-head =
-      omega (
-        arith,
-        head-long,
-        length-word-line passesWord (decimal (plan .count)),
-        length-word-line stepsWord (decimal (total (routeOf plan))),
-        length-word-line resultWord (decimal (resultArea plan)),
-      )
+  abbrev pub stepsLine : List ℕ
+  stepsLine = line (stepsWord ++ decimal (total (routeOf plan)))
+
+  abbrev pub resultLine : List ℕ
+  resultLine = line (resultWord ++ decimal (resultArea plan))
+
+  pub head-long : length (headLines plan) ≡ length passesLine + (length stepsLine + length resultLine)
+  unfolding headLines
+  head-long = length-append passesLine (stepsLine ++ resultLine) ∙ ap (λ (k : ℕ). length passesLine + k) (length-append stepsLine resultLine)
+
+  pub head-small : length (headLines plan) ≤ 83
+  head-small =
+      omega (arith, head-long, line-short passesWord (plan .count), line-short stepsWord (total (routeOf plan)), line-short resultWord (resultArea plan))
 
   -- the sum of the two lengths doesn't wrap
   pub listing-small : sound plan ≡ true → length (plan .rows) ≡ PASSES * ROWS → length (headLines plan) + length (tailLines plan) < 2 ^ 64
-  listing-small e room =
-      let fits = sound-allowed plan e .n-high in
-      let few = sound-few plan e in
-      omega (
-        arith,
-        length-head,
-        decimal-length (plan .count),
-        decimal-length (total (routeOf plan)),
-        decimal-length (resultArea plan),
-        tail-length plan fits few room,
-        passes-size-small (plan .geometry .n) (plan .count) fits,
-      )
+  listing-small e room = omega (arith, head-small, tail-small plan (sound-allowed plan e .n-high) room (sound-few plan e))
 
   pub listing-none : sound plan ≡ false → listing plan ≡ []
   unfolding listing
@@ -183,8 +169,7 @@ module _ (plan : Plan) where
   unfolding listing headLines
   listing-parts e =
       rw e
-      (sym (append-assoc (line (passesWord ++ decimal (plan .count))) (line (stepsWord ++ decimal (total (routeOf plan))) ++ line (resultWord ++ decimal (resultArea plan))) (tailLines plan)
-      ∙ ap (λ (l : List ℕ). line (passesWord ++ decimal (plan .count)) ++ l) (append-assoc (line (stepsWord ++ decimal (total (routeOf plan)))) (line (resultWord ++ decimal (resultArea plan))) (tailLines plan))))
+      (sym (append-assoc passesLine (stepsLine ++ resultLine) (tailLines plan) ∙ ap (λ (l : List ℕ). passesLine ++ l) (append-assoc stepsLine resultLine (tailLines plan))))
 
   -- what is written, and the room afterwards, by the test on the room's length
   pub no-room : (room : List ℕ) → length room < length (listing plan) → (0 ≡ written plan room) × (room ≡ roomAfter plan room)

@@ -85,3 +85,17 @@ wrote-three room at t u v a b after i j past x y z h =
 -- a line of two parts
 pub length-word-line : (w d : List ℕ) → length (line (w ++ d)) ≡ length w + length d + 1
 length-word-line w d = length-append (w ++ d) (10 ∷ []) ∙ ap (λ (k : ℕ). k + 1) (length-append w d)
+
+-- two parts and the line's end
+module _ (room : List ℕ) (at : ℕ) (t u : List ℕ) (a after : List ℕ) (i past : ℕ) (x : Wrote room at t a i) (y : Wrote a i u after past) (fits : at + length (line (t ++ u)) ≤ length room) where
+  both : Wrote room at (t ++ u) after past
+  both = wrote-more room at t a i x u after past y (omega (arith, length-word-line t u))
+
+  pub line-length : length after ≡ length room
+  line-length = wrote-length room at (t ++ u) after past both (omega (arith, length-append (t ++ u) (10 ∷ [])))
+
+  pub line-inside : past < length after
+  line-inside = omega (arith, both .place, line-length, length-append (t ++ u) (10 ∷ []))
+
+  pub line-wrote : Wrote room at (line (t ++ u)) (set after past 10) (past + 1)
+  line-wrote = wrote-byte room at (t ++ u) after past both 10 (omega (arith, length-append (t ++ u) (10 ∷ [])))

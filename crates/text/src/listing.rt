@@ -7,7 +7,7 @@ ghost use Rattle.bank.specs.Limits.{ROWS, PASSES};
 ghost use Rattle.planning.specs.Running.{sound};
 ghost use Rattle.text.specs.Listing.{listing, written, roomAfter};
 ghost use Rattle.text.specs.Written.{Wrote, headLines, passAtLines, tailLines};
-use crate::write::decimal_size;
+use crate::write::line_size;
 use crate::write::put_line;
 use crate::write::put_row;
 use crate::write::put_rows;
@@ -22,10 +22,19 @@ fn head_size(plan: Plan) -> usize
     requires { ⌜ sound plan ≡ true ⌝ }
     ensures { λ r. ⌜ r ≡ length (headLines plan) ⌝ }
 {
-    let passes = decimal_size(bank::wide(plan.count));
-    let steps = decimal_size(total_steps(plan));
-    let area = decimal_size(bank::wide(result_area(plan)));
-    8 + passes + 7 + steps + 8 + area
+    let passes = line_size(b"passes ", bank::wide(plan.count));
+    let steps = line_size(b"steps ", total_steps(plan));
+    let area = line_size(b"result ", bank::wide(result_area(plan)));
+    passes + steps + area
+}
+
+// How many bytes pass p has: its number's line, and n + 1 lines of n characters.
+fn pass_size(plan: Plan, p: usize) -> usize
+    requires { ⌜ (plan .geometry .n ≤ ROWS) × (p < PASSES) ⌝ }
+    ensures { λ r. ⌜ r ≡ length (passAtLines plan p) ⌝ }
+{
+    let n = plan.geometry.n as usize;
+    line_size(b"pass ", p as u64) + (n + 1) * (n + 1)
 }
 
 // How many bytes the passes have.
@@ -33,13 +42,12 @@ fn tail_size(plan: Plan) -> usize
     requires { ⌜ sound plan ≡ true ⌝ }
     ensures { λ r. ⌜ r ≡ length (tailLines plan) ⌝ }
 {
-    let n = plan.geometry.n as usize;
     let count = plan.count as usize;
     let mut size = 0usize;
-    let mut p = 0usize;
-    while p < count {
-        size += 6 + decimal_size(p as u64) + (n + 1) * (n + 1);
-        p += 1;
+    let mut k = 0usize;
+    while k < count {
+        size += pass_size(plan, k);
+        k += 1;
     }
     size
 }
@@ -104,7 +112,8 @@ pub fn write_listing(plan: Plan, room: &mut [u8]) -> usize
     if !is_sound(plan) {
         return 0;
     }
-    let size = head_size(plan) + tail_size(plan);
+    let head = head_size(plan);
+    let size = head + tail_size(plan);
     if room.len() < size {
         return 0;
     }

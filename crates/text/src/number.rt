@@ -4,19 +4,19 @@ ghost use Rattle.text.specs.Parsing.{digitOf, digitAt, numberAt, fieldAt
 use bank::Geometry;
 
 // A number and the place past it.
-pub enum Parsed {
+pub(crate) enum Parsed {
     Value(u32, usize),
     Bad,
 }
 
 // The geometry of a first line and the place past it.
-pub enum Line {
+pub(crate) enum Line {
     Of(Geometry, usize),
     Unread,
 }
 
 // The digit that a byte is, 10 where it is none.
-pub fn digit(x: u8) -> u32
+fn digit(x: u8) -> u32
     ensures { λ r. ⌜ r ≡ digitOf x ⌝ }
 {
     if x < 48 {
@@ -28,14 +28,14 @@ pub fn digit(x: u8) -> u32
     (x - 48) as u32
 }
 
-pub fn digit_at(text: &[u8], at: usize) -> u32
+pub(crate) fn digit_at(text: &[u8], at: usize) -> u32
     ensures { λ r. ⌜ r ≡ digitAt (now (text .entry)) at ⌝ }
 {
     if at < text.len() { digit(text[at]) } else { 10 }
 }
 
 // A number of 1 to 3 digits with no leading zero but 0 itself.
-pub fn number_at(text: &[u8], at: usize) -> Parsed
+fn number_at(text: &[u8], at: usize) -> Parsed
     ensures { λ r. ⌜ r ≡ numberAt (now (text .entry)) at ⌝ }
 {
     let a = digit_at(text, at);
@@ -59,7 +59,7 @@ pub fn number_at(text: &[u8], at: usize) -> Parsed
 }
 
 // A number and the byte that ends it.
-pub fn field(text: &[u8], at: usize, end: u8) -> Parsed
+fn field(text: &[u8], at: usize, end: u8) -> Parsed
     ensures { λ r. ⌜ r ≡ fieldAt (now (text .entry)) at end ⌝ }
 {
     let Parsed::Value(v, k) = number_at(text, at) else {
@@ -74,7 +74,7 @@ pub fn field(text: &[u8], at: usize, end: u8) -> Parsed
 }
 
 // n b d m R, one space between, and LF.
-pub fn first_line(text: &[u8]) -> Line
+pub(crate) fn first_line(text: &[u8]) -> Line
     ensures { λ r. ⌜ r ≡ firstLineAt (now (text .entry)) ⌝ }
 {
     let Parsed::Value(n, i) = field(text, 0, 32) else {

@@ -20,7 +20,7 @@ pub struct Read {
 }
 
 // A refusal.
-pub fn refused(number: u8) -> Read
+fn refused(number: u8) -> Read
     ensures { λ r. ⌜ (r .number ≡ number) × (r .order ≡ noOrder) ⌝ }
 {
     let list = [0u32; ROWS];
@@ -41,7 +41,7 @@ pub fn refused(number: u8) -> Read
 }
 
 // What follows the first line of g: n rows, the complement, and nothing more.
-pub fn rest_at(text: &[u8], at: usize, g: Geometry) -> Read
+fn rest_at(text: &[u8], at: usize, g: Geometry) -> Read
     requires { ⌜ g .n ≤ ROWS ⌝ }
     ensures { λ r. ⌜ RestAt (now (text .entry)) at g r ⌝ }
 {

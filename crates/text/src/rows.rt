@@ -7,14 +7,14 @@ use crate::number::digit_at;
 use bank::ROWS;
 
 // Rows, and the place past their lines, where they are good.
-pub struct Rows {
+pub(crate) struct Rows {
     pub good: bool,
     pub rows: [u32; ROWS],
     pub end: usize,
 }
 
 // A line of n characters 0 or 1, bit 0 first, and the place past it.
-pub fn row_at(text: &[u8], at: usize, n: usize) -> Parsed
+pub(crate) fn row_at(text: &[u8], at: usize, n: usize) -> Parsed
     requires { ⌜ n ≤ ROWS ⌝ }
     ensures { λ r. ⌜ RowAt (now (text .entry)) at n r ⌝ }
 {
@@ -32,18 +32,18 @@ pub fn row_at(text: &[u8], at: usize, n: usize) -> Parsed
     let mut v = 0u32;
     let mut i = n;
     while 0 < i {
-        i -= 1;
-        let d = digit_at(text, at + i);
+        let d = digit_at(text, at + i - 1);
         if 1 < d {
             return Parsed::Bad;
         }
         v = v * 2 + d;
+        i -= 1;
     }
     Parsed::Value(v, end + 1)
 }
 
 // n lines of n characters.
-pub fn rows_at(text: &[u8], at: usize, n: usize) -> Rows
+pub(crate) fn rows_at(text: &[u8], at: usize, n: usize) -> Rows
     requires { ⌜ n ≤ ROWS ⌝ }
     ensures { λ r. ⌜ RowsAt (now (text .entry)) at n r ⌝ }
 {

@@ -1,7 +1,7 @@
 // Words, numbers and rows are written at a place of a room that has the space.
 ghost use mathlib.Core.Path.{_≡_};
 ghost use mathlib.Core.List.{_++_};
-ghost use Prim.Native.Nat.{_+_, _≤_};
+ghost use Prim.Native.Nat.{_+_, _^_, _<_, _≤_};
 ghost use lib.ListN.{length, take};
 ghost use Rattle.bank.specs.Limits.{ROWS};
 ghost use Rattle.text.specs.Lines.{line, decimal, bits, rowLines};
@@ -9,7 +9,7 @@ ghost use Rattle.text.specs.Written.{Wrote};
 use bank::ROWS;
 
 // How many digits a number has.
-pub fn decimal_size(v: u64) -> usize
+fn decimal_size(v: u64) -> usize
     ensures { λ r. ⌜ r ≡ length (decimal v) ⌝ }
 {
     let mut k = 1usize;
@@ -21,8 +21,16 @@ pub fn decimal_size(v: u64) -> usize
     k
 }
 
+// How many bytes a line of a word and a number has.
+pub(crate) fn line_size(word: &[u8], v: u64) -> usize
+    requires { ⌜ length (now word) < 2 ^ 32 ⌝ }
+    ensures { λ r. ⌜ r ≡ length (line (now (word .entry) ++ decimal v)) ⌝ }
+{
+    word.len() + decimal_size(v) + 1
+}
+
 // A number, last digit first.
-pub fn put_decimal(room: &mut [u8], at: usize, v: u64) -> usize
+fn put_decimal(room: &mut [u8], at: usize, v: u64) -> usize
     requires { ⌜ at + length (decimal v) ≤ length (now room) ⌝ }
     ensures { λ r. ⌜ Wrote (now (room .entry)) at (decimal v) (now (room .exit)) r ⌝ }
 {
@@ -38,7 +46,7 @@ pub fn put_decimal(room: &mut [u8], at: usize, v: u64) -> usize
     end
 }
 
-pub fn put_word(room: &mut [u8], at: usize, word: &[u8]) -> usize
+fn put_word(room: &mut [u8], at: usize, word: &[u8]) -> usize
     requires { ⌜ at + length (now word) ≤ length (now room) ⌝ }
     ensures { λ r. ⌜ Wrote (now (room .entry)) at (now (word .entry)) (now (room .exit)) r ⌝ }
 {
@@ -53,7 +61,7 @@ pub fn put_word(room: &mut [u8], at: usize, word: &[u8]) -> usize
 }
 
 // A line of a word and a number.
-pub fn put_line(room: &mut [u8], at: usize, word: &[u8], v: u64) -> usize
+pub(crate) fn put_line(room: &mut [u8], at: usize, word: &[u8], v: u64) -> usize
     requires { ⌜ at + length (line (now word ++ decimal v)) ≤ length (now room) ⌝ }
     ensures { λ r. ⌜ Wrote (now (room .entry)) at (line (now (word .entry) ++ decimal v)) (now (room .exit)) r ⌝ }
 {
@@ -64,24 +72,22 @@ pub fn put_line(room: &mut [u8], at: usize, word: &[u8], v: u64) -> usize
 }
 
 // n bits as characters, bit 0 first.
-pub fn put_bits(room: &mut [u8], at: usize, v: u32, n: usize) -> usize
+fn put_bits(room: &mut [u8], at: usize, v: u32, n: usize) -> usize
     requires { ⌜ at + n ≤ length (now room) ⌝ }
     ensures { λ r. ⌜ Wrote (now (room .entry)) at (bits n v) (now (room .exit)) r ⌝ }
 {
-    let mut p = at;
     let mut x = v;
-    let mut i = 0usize;
-    while i < n {
-        room[p] = 48 + (x % 2) as u8;
+    let mut i = n;
+    while 0 < i {
+        room[at + n - i] = 48 + (x % 2) as u8;
         x = x / 2;
-        p += 1;
-        i += 1;
+        i -= 1;
     }
-    p
+    at + n
 }
 
 // A row as a line.
-pub fn put_row(room: &mut [u8], at: usize, v: u32, n: usize) -> usize
+pub(crate) fn put_row(room: &mut [u8], at: usize, v: u32, n: usize) -> usize
     requires { ⌜ at + (n + 1) ≤ length (now room) ⌝ }
     ensures { λ r. ⌜ Wrote (now (room .entry)) at (line (bits n v)) (now (room .exit)) r ⌝ }
 {
@@ -91,7 +97,7 @@ pub fn put_row(room: &mut [u8], at: usize, v: u32, n: usize) -> usize
 }
 
 // The first n rows, a line for each.
-pub fn put_rows(room: &mut [u8], at: usize, rows: &[u32; ROWS], n: usize) -> usize
+pub(crate) fn put_rows(room: &mut [u8], at: usize, rows: &[u32; ROWS], n: usize) -> usize
     requires { ⌜ (n ≤ ROWS) × (at + length (rowLines n (take n (now rows))) ≤ length (now room)) ⌝ }
     ensures { λ r. ⌜ Wrote (now (room .entry)) at (rowLines n (take n (now (rows .entry)))) (now (room .exit)) r ⌝ }
 {

@@ -1,37 +1,43 @@
 -- `text::listing::listing_size` meets its contract: the lengths of the two parts, or none. Assumes nothing.
-use mathlib.Core.Path.{sym, ap, _∙_}
+use mathlib.Core.Path.{_≡_, sym, ap, _∙_}
+use mathlib.Core.Bool.{true}
 use native.Mathlib.Omega.{arith}
 use borrow.Author.Needs.{needs}
 use lib.ListN.{length, length-append}
 use borrow.Author.Tests.{not-true, not-false}
+use Rattle.planning.specs.Running.{sound}
 use Rattle.text.specs.Written.{headLines, tailLines}
 use Rattle.text.proofs.Passes.{listing-none, listing-small, listing-parts}
 use Rattle.text.proofs.listing.listing_size.Statement.{statement}
 use Rattle.text.proofs.listing.listing_size.Tie as tie
 
+can-run : (k : tie.Else1) → sound (k .before .before .args .plan) ≡ true
+can-run k = sym (k .before .is-sound .ensures) ∙ not-false (k .before .is-sound .result) (k .if1 .left)
+
 is-sound-requires : tie.Need-is-sound-requires
 is-sound-requires c κs = search needs
 
 returns : tie.Need-returns
-returns c = sym (ap length (listing-none (c .before .before .args .plan) (sym (c .before .is-sound .ensures) ∙ not-true (c .before .is-sound .result) (c .if1 .taken))))
+returns c =
+    let none = sym (c .before .is-sound .ensures) ∙ not-true (c .before .is-sound .result) (c .if1 .taken) in
+    sym (ap length (listing-none (c .before .before .args .plan) none))
 
 head-size-requires : tie.Need-head-size-requires
-head-size-requires c κs = sym (c .before .is-sound .ensures) ∙ not-false (c .before .is-sound .result) (c .if1 .left)
+head-size-requires c κs = can-run c
 
 tail-size-requires : tie.Need-tail-size-requires
-tail-size-requires c κs = sym (c .before .before .is-sound .ensures) ∙ not-false (c .before .before .is-sound .result) (c .before .if1 .left)
+tail-size-requires c κs = can-run (c .before)
 
 add-result : tie.Need-add-result
 add-result c =
-    let plan = c .before .before .before .before .args .plan in
-    let sound = sym (c .before .before .before .is-sound .ensures) ∙ not-false (c .before .before .before .is-sound .result) (c .before .before .if1 .left) in
-    omega (arith, listing-small plan sound (search needs), c .before .head-size .ensures, c .tail-size .ensures)
+    let small = listing-small (c .before .before .before .before .args .plan) (can-run (c .before .before)) (search needs) in
+    omega (arith, c .before .head-size .ensures, c .tail-size .ensures)
 
 returns-2 : tie.Need-returns-2
 returns-2 c =
     let plan = c .before .before .before .before .args .plan in
-    let sound = sym (c .before .before .before .is-sound .ensures) ∙ not-false (c .before .before .before .is-sound .result) (c .before .before .if1 .left) in
-    omega (arith, ap length (listing-parts plan sound) ∙ length-append (headLines plan) (tailLines plan), c .before .head-size .ensures, c .tail-size .ensures)
+    let parts = ap length (listing-parts plan (can-run (c .before .before))) ∙ length-append (headLines plan) (tailLines plan) in
+    omega (arith, c .before .head-size .ensures, c .tail-size .ensures)
 
 pub listing-size-spec : {M : Type 1} → statement M
 listing-size-spec =

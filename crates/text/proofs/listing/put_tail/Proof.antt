@@ -1,5 +1,5 @@
 -- `text::listing::put_tail` meets its contract: after p turns the first p passes stand there. Assumes nothing.
-use mathlib.Core.Path.{_≡_, refl, ap, _∙_}
+use mathlib.Core.Path.{_≡_, refl}
 use mathlib.Core.List.{_++_}
 use Prim.Native.Nat.{_+_, _-_, _≤_}
 use native.Mathlib.Omega.{arith}
@@ -8,7 +8,7 @@ use lib.ListN.{length, length-append}
 use Rattle.planning.proofs.Running.{sound-allowed, sound-few}
 use Rattle.text.specs.Written.{Wrote, passAtLines}
 use Rattle.text.proofs.Put.{wrote-none, wrote-more, wrote-length, wrote-fits}
-use Rattle.text.proofs.Passes.{upTo, up-to-none, up-to-more, up-to-short, up-to-all}
+use Rattle.text.proofs.Passes.{upTo, up-to-none, up-to-more, up-to-longer, up-to-short, up-to-all}
 use Rattle.text.proofs.listing.put_tail.Statement.{statement}
 use Rattle.text.proofs.listing.put_tail.Tie as tie
 
@@ -28,15 +28,16 @@ loop-holds c =
 
 put-pass-requires : tie.Need-put-pass-requires Inv-loop μ-loop
 put-pass-requires c κs =
-    let a = c .before .before .before .before .before .args in
+    let start = c .before .before .before .before .before in
+    let a = start .args in
     let l = c .before .before .loop in
-    let more = up-to-more (a .plan) (l .p) (omega arith) in
+    let longer = up-to-longer (a .plan) (l .p) (omega arith) in
     let short = up-to-short (a .plan) (l .p + 1) in
-    let sizes = ap length more ∙ length-append (upTo (a .plan) (l .p)) (passAtLines (a .plan) (l .p)) in
-    let few = sound-few (a .plan) (c .before .before .before .before .before .pre .0) in (
-      sound-allowed (a .plan) (c .before .before .before .before .before .pre .0) .n-high,
+    let few = sound-few (a .plan) (start .pre .0) in
+    let size = length (passAtLines (a .plan) (l .p)) in (
+      sound-allowed (a .plan) (start .pre .0) .n-high,
       omega arith,
-      wrote-fits (a .room .now) (a .at) (upTo (a .plan) (l .p)) (l .room) (l .i) (l .inv .2) (length (passAtLines (a .plan) (l .p))) (omega (arith, c .before .before .before .before .before .pre .1)),
+      wrote-fits (a .room .now) (a .at) (upTo (a .plan) (l .p)) (l .room) (l .i) (l .inv .2) size (omega (arith, start .pre .1)),
     )
 
 add-p : tie.Need-add-p Inv-loop μ-loop
@@ -47,16 +48,18 @@ loop-less c = omega arith
 
 loop-again : tie.Need-loop-again Inv-loop μ-loop
 loop-again c =
-    let a = c .before .before .before .before .before .before .before .before .args in
+    let start = c .before .before .before .before .before .before .before .before in
+    let a = start .args in
     let l = c .before .before .before .before .before .loop in
-    let more = up-to-more (a .plan) (l .p) (omega arith) in
+    let done = upTo (a .plan) (l .p) in
+    let pass = passAtLines (a .plan) (l .p) in
+    let longer = up-to-longer (a .plan) (l .p) (omega arith) in
     let short = up-to-short (a .plan) (l .p + 1) in
-    let sizes = ap length more ∙ length-append (upTo (a .plan) (l .p)) (passAtLines (a .plan) (l .p)) in
     let w = c .before .before .put-pass .ensures in
-    let both = wrote-more (a .room .now) (a .at) (upTo (a .plan) (l .p)) (l .room) (l .i) (l .inv .2) (passAtLines (a .plan) (l .p)) _ _ w (omega (arith, c .before .before .before .before .before .before .before .before .pre .1)) in (
+    let both = wrote-more (a .room .now) (a .at) done (l .room) (l .i) (l .inv .2) pass _ _ w (omega (arith, start .pre .1)) in (
       omega arith,
-      wrote-length (a .room .now) (a .at) (upTo (a .plan) (l .p) ++ passAtLines (a .plan) (l .p)) _ _ both (omega (arith, c .before .before .before .before .before .before .before .before .pre .1, length-append (upTo (a .plan) (l .p)) (passAtLines (a .plan) (l .p)))),
-      rw more both,
+      wrote-length (a .room .now) (a .at) (done ++ pass) _ _ both (omega (arith, start .pre .1, length-append done pass)),
+      rw (up-to-more (a .plan) (l .p) (omega arith)) both,
     )
 
 same-length : tie.Need-same-length Inv-loop μ-loop

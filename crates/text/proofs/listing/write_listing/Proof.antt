@@ -1,9 +1,12 @@
 -- `text::listing::write_listing` meets its contract: both parts, one after the other, or nothing. Assumes nothing.
-use mathlib.Core.Path.{sym, ap, _∙_}
+use mathlib.Core.Path.{_≡_, sym, ap, _∙_}
+use mathlib.Core.Bool.{true}
+use Prim.Native.Nat.{_+_, _≤_}
 use native.Mathlib.Omega.{arith}
 use borrow.Author.Needs.{needs}
 use lib.ListN.{length, length-append}
 use borrow.Author.Tests.{not-true, not-false}
+use Rattle.planning.specs.Running.{sound}
 use Rattle.text.specs.Listing.{listing}
 use Rattle.text.specs.Written.{headLines, tailLines}
 use Rattle.text.proofs.Put.{wrote-more, wrote-fits}
@@ -11,50 +14,67 @@ use Rattle.text.proofs.Passes.{listing-small, listing-parts, no-room, n
 use Rattle.text.proofs.listing.write_listing.Statement.{statement}
 use Rattle.text.proofs.listing.write_listing.Tie as tie
 
+-- ---- the plan can run, and the listing has room
+can-run : (k : tie.Else1) → sound (k .before .before .before .args .plan) ≡ true
+can-run k = sym (k .before .is-sound .ensures) ∙ not-false (k .before .is-sound .result) (k .if1 .left)
+
+sized : (k : tie.After-tail-size)
+    → k .before .head-size .result + k .tail-size .result ≡ length (listing (k .before .before .before .before .before .args .plan))
+sized k =
+    let plan = k .before .before .before .before .before .args .plan in
+    let parts = ap length (listing-parts plan (can-run (k .before .before))) ∙ length-append (headLines plan) (tailLines plan) in
+    omega (arith, k .before .head-size .ensures, k .tail-size .ensures)
+
+roomy : (k : tie.Else2) →
+    let a = k .before .before .before .before .before .before .args in
+    length (headLines (a .plan)) + length (tailLines (a .plan)) ≤ length (a .room .now)
+roomy k = omega (arith, k .before .before .head-size .ensures, k .before .tail-size .ensures)
+
 is-sound-requires : tie.Need-is-sound-requires
 is-sound-requires c κs = search needs
 
 returns : tie.Need-returns
-returns c = let a = c .before .before .before .args in nothing-listed (a .plan) (a .room .now) (sym (c .before .is-sound .ensures) ∙ not-true (c .before .is-sound .result) (c .if1 .taken))
+returns c =
+    let a = c .before .before .before .args in
+    nothing-listed (a .plan) (a .room .now) (sym (c .before .is-sound .ensures) ∙ not-true (c .before .is-sound .result) (c .if1 .taken))
 
 head-size-requires : tie.Need-head-size-requires
-head-size-requires c κs = sym (c .before .is-sound .ensures) ∙ not-false (c .before .is-sound .result) (c .if1 .left)
+head-size-requires c κs = can-run c
 
 tail-size-requires : tie.Need-tail-size-requires
-tail-size-requires c κs = sym (c .before .before .is-sound .ensures) ∙ not-false (c .before .before .is-sound .result) (c .before .if1 .left)
+tail-size-requires c κs = can-run (c .before)
 
 add-size : tie.Need-add-size
 add-size c =
-    let plan = c .before .before .before .before .before .args .plan in
-    omega (arith, listing-small plan (sym (c .before .before .before .is-sound .ensures) ∙ not-false (c .before .before .before .is-sound .result) (c .before .before .if1 .left)) (search needs), c .before .head-size .ensures, c .tail-size .ensures)
+    let small = listing-small (c .before .before .before .before .before .args .plan) (can-run (c .before .before)) (search needs) in
+    omega (arith, c .before .head-size .ensures, c .tail-size .ensures)
 
 returns-2 : tie.Need-returns-2
-returns-2 c =
-    let a = c .before .before .before .before .before .before .args in
-    let sizes = ap length (listing-parts (a .plan) (sym (c .before .before .before .before .is-sound .ensures) ∙ not-false (c .before .before .before .before .is-sound .result) (c .before .before .before .if1 .left))) ∙ length-append (headLines (a .plan)) (tailLines (a .plan)) in
-    no-room (a .plan) (a .room .now) (omega (arith, c .before .before .head-size .ensures, c .before .tail-size .ensures))
+returns-2 c = let a = c .before .before .before .before .before .before .args in no-room (a .plan) (a .room .now) (omega (arith, sized (c .before)))
 
 put-head-requires : tie.Need-put-head-requires
-put-head-requires c κs = (sym (c .before .before .before .before .before .is-sound .ensures) ∙ not-false (c .before .before .before .before .before .is-sound .result) (c .before .before .before .before .if1 .left), omega (arith, c .before .before .before .head-size .ensures, c .before .before .tail-size .ensures))
+put-head-requires c κs = (can-run (c .before .before .before .before), omega (arith, roomy (c .before)))
 
 put-tail-requires : tie.Need-put-tail-requires
 put-tail-requires c κs =
     let a = c .before .before .before .before .before .before .before .before .before .before .before .args in
-    (sym (c .before .before .before .before .before .before .before .before .before .is-sound .ensures) ∙ not-false (c .before .before .before .before .before .before .before .before .before .is-sound .result) (c .before .before .before .before .before .before .before .before .if1 .left), wrote-fits (a .room .now) 0 (headLines (a .plan)) _ _ (c .before .before .before .put-head .ensures) (length (tailLines (a .plan))) (omega (arith, c .before .before .before .before .before .before .before .head-size .ensures, c .before .before .before .before .before .before .tail-size .ensures)))
+    let fits = roomy (c .before .before .before .before .before) in
+    let left = wrote-fits (a .room .now) 0 (headLines (a .plan)) _ _ (c .before .before .before .put-head .ensures) (length (tailLines (a .plan))) (omega arith) in
+    (can-run (c .before .before .before .before .before .before .before .before), left)
 
 same-length : tie.Need-same-length
 same-length c = search needs
 
 returns-3 : tie.Need-returns-3
 returns-3 c =
+    let k = c .before .before .before .before .before .before .before .before in
     let a = c .before .before .before .before .before .before .before .before .before .before .before .before .before .before .args in
-    let parts = listing-parts (a .plan) (sym (c .before .before .before .before .before .before .before .before .before .before .before .before .is-sound .ensures) ∙ not-false (c .before .before .before .before .before .before .before .before .before .before .before .before .is-sound .result) (c .before .before .before .before .before .before .before .before .before .before .before .if1 .left)) in
-    let sizes = ap length parts ∙ length-append (headLines (a .plan)) (tailLines (a .plan)) in
-    let both =
-    wrote-more (a .room .now) 0 (headLines (a .plan)) _ _ (c .before .before .before .before .before .before .put-head .ensures) (tailLines (a .plan)) _ _ (c .before .before .put-tail .ensures)
-    (omega (arith, c .before .before .before .before .before .before .before .before .before .before .head-size .ensures, c .before .before .before .before .before .before .before .before .before .tail-size .ensures))
-    in
-    listed-whole (a .plan) (a .room .now) (omega (arith, c .before .before .before .before .before .before .before .before .before .before .head-size .ensures, c .before .before .before .before .before .before .before .before .before .tail-size .ensures)) _ _ (rw parts both)
+    let fits = roomy k in
+    let head = c .before .before .before .before .before .before .put-head .ensures in
+    let both = wrote-more (a .room .now) 0 (headLines (a .plan)) _ _ head (tailLines (a .plan)) _ _ (c .before .before .put-tail .ensures) (omega arith) in
+    let parts = listing-parts (a .plan) (can-run (c .before .before .before .before .before .before .before .before .before .before .before)) in
+    let long = ap length parts ∙ length-append (headLines (a .plan)) (tailLines (a .plan)) in
+    listed-whole (a .plan) (a .room .now) (omega arith) _ _ (rw parts both)
 
 pub write-listing-spec : {M : Type 1} → statement M
 write-listing-spec =

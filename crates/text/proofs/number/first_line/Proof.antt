@@ -1,10 +1,50 @@
 -- `text::number::first_line` meets its contract: field by field, each by what the one before it gave. Assumes nothing.
-use mathlib.Core.Path.{sym, _∙_}
-use Rattle.text.specs.Parsing.{firstLineAt}
+use mathlib.Core.Path.{_≡_, refl, sym}
+use mathlib.Core.List.{List}
+use Prim.Native.Nat.{ℕ}
 use borrow.Author.Needs.{needs}
+use Rattle.text.specs.Parsing.{upToB, upToD, upToM, upToR, firstLineAt}
+use Rattle.text.specs.declared.number.Line.the-variants.{Of}
+use Rattle.text.proofs.FirstLine.{then-value, then-bad}
 use Rattle.text.proofs.number.first_line.Statement.{statement}
 use Rattle.text.proofs.number.first_line.Tie as tie
 
+-- ---- what is left to read once a field is read
+abbrev text-of : tie.After-n → List ℕ
+text-of c = c .before .before .before .before .args .text .now
+
+line-n : (c : tie.After-n) →
+    firstLineAt (text-of c) ≡ upToB (text-of c) (c .n .given .0 .0) (c .n .given .0 .1 .0)
+unfolding firstLineAt
+line-n c = then-value _ _ _ _ _ _ refl (c .before .before .field .ensures) (c .n .given .1)
+
+line-b : (c : tie.After-b) →
+    let at-n = c .before .before .before .before in
+    firstLineAt (text-of at-n) ≡ upToD (text-of at-n) (at-n .n .given .0 .0) (c .b .given .0 .0) (c .b .given .0 .1 .0)
+line-b c = then-value _ _ _ _ _ _ (line-n (c .before .before .before .before)) (c .before .before .field2 .ensures) (c .b .given .1)
+
+line-d : (c : tie.After-d) →
+    let at-b = c .before .before .before .before in
+    let at-n = at-b .before .before .before .before in
+    firstLineAt (text-of at-n) ≡ upToM (text-of at-n) (at-n .n .given .0 .0) (at-b .b .given .0 .0) (c .d .given .0 .0) (c .d .given .0 .1 .0)
+line-d c = then-value _ _ _ _ _ _ (line-b (c .before .before .before .before)) (c .before .before .field3 .ensures) (c .d .given .1)
+
+line-m : (c : tie.After-m) →
+    let at-d = c .before .before .before .before in
+    let at-b = at-d .before .before .before .before in
+    let at-n = at-b .before .before .before .before in
+    firstLineAt (text-of at-n) ≡ upToR (text-of at-n) (at-n .n .given .0 .0) (at-b .b .given .0 .0) (at-d .d .given .0 .0) (c .m .given .0 .0) (c .m .given .0 .1 .0)
+line-m c = then-value _ _ _ _ _ _ (line-d (c .before .before .before .before)) (c .before .before .field4 .ensures) (c .m .given .1)
+
+line-r : (c : tie.After-r) →
+    let at-m = c .before .before .before .before in
+    let at-d = at-m .before .before .before .before in
+    let at-b = at-d .before .before .before .before in
+    let at-n = at-b .before .before .before .before in
+    firstLineAt (text-of at-n) ≡ Of (record { n = at-n .n .given .0 .0; b = at-b .b .given .0 .0; d = at-d .d .given .0 .0; m = at-m .m .given .0 .0; r = c .r .given .0 .0 }) (c .r .given .0 .1 .0)
+line-r c = then-value _ _ _ _ _ _ (line-m (c .before .before .before .before)) (c .before .before .field5 .ensures) (c .r .given .1)
+
+-- ---- the needs
 field-requires : tie.Need-field-requires
 field-requires c κs = search needs
 
@@ -16,9 +56,7 @@ enum-told c = search needs
 
 returns : tie.Need-returns
 unfolding firstLineAt
-returns c =
-    simp
-    (sym (c .before .before .field .ensures) ∙ c .enum-told .given .1)
+returns c = then-bad _ _ _ _ refl (c .before .before .field .ensures) (c .enum-told .given .1)
 
 field-requires-2 : tie.Need-field-requires-2
 field-requires-2 c κs = search needs
@@ -30,12 +68,7 @@ enum-told-2 : tie.Need-enum-told-2
 enum-told-2 c = search needs
 
 returns-2 : tie.Need-returns-2
-unfolding firstLineAt
-returns-2 c =
-    simp (
-      sym (c .before .before .before .before .before .before .field .ensures) ∙ c .before .before .before .before .n .given .1,
-      sym (c .before .before .field2 .ensures) ∙ c .enum-told2 .given .1,
-    )
+returns-2 c = then-bad _ _ _ _ (line-n (c .before .before .before .before)) (c .before .before .field2 .ensures) (c .enum-told2 .given .1)
 
 field-requires-3 : tie.Need-field-requires-3
 field-requires-3 c κs = search needs
@@ -47,13 +80,7 @@ enum-told-3 : tie.Need-enum-told-3
 enum-told-3 c = search needs
 
 returns-3 : tie.Need-returns-3
-unfolding firstLineAt
-returns-3 c =
-    simp (
-      sym (c .before .before .before .before .before .before .before .before .before .before .field .ensures) ∙ c .before .before .before .before .before .before .before .before .n .given .1,
-      sym (c .before .before .before .before .before .before .field2 .ensures) ∙ c .before .before .before .before .b .given .1,
-      sym (c .before .before .field3 .ensures) ∙ c .enum-told3 .given .1,
-    )
+returns-3 c = then-bad _ _ _ _ (line-b (c .before .before .before .before)) (c .before .before .field3 .ensures) (c .enum-told3 .given .1)
 
 field-requires-4 : tie.Need-field-requires-4
 field-requires-4 c κs = search needs
@@ -65,14 +92,7 @@ enum-told-4 : tie.Need-enum-told-4
 enum-told-4 c = search needs
 
 returns-4 : tie.Need-returns-4
-unfolding firstLineAt
-returns-4 c =
-    simp (
-      sym (c .before .before .before .before .before .before .before .before .before .before .before .before .before .before .field .ensures) ∙ c .before .before .before .before .before .before .before .before .before .before .before .before .n .given .1,
-      sym (c .before .before .before .before .before .before .before .before .before .before .field2 .ensures) ∙ c .before .before .before .before .before .before .before .before .b .given .1,
-      sym (c .before .before .before .before .before .before .field3 .ensures) ∙ c .before .before .before .before .d .given .1,
-      sym (c .before .before .field4 .ensures) ∙ c .enum-told4 .given .1,
-    )
+returns-4 c = then-bad _ _ _ _ (line-d (c .before .before .before .before)) (c .before .before .field4 .ensures) (c .enum-told4 .given .1)
 
 field-requires-5 : tie.Need-field-requires-5
 field-requires-5 c κs = search needs
@@ -84,26 +104,10 @@ enum-told-5 : tie.Need-enum-told-5
 enum-told-5 c = search needs
 
 returns-5 : tie.Need-returns-5
-unfolding firstLineAt
-returns-5 c =
-    simp (
-      sym (c .before .before .before .before .before .before .before .before .before .before .before .before .before .before .before .before .before .before .field .ensures) ∙ c .before .before .before .before .before .before .before .before .before .before .before .before .before .before .before .before .n .given .1,
-      sym (c .before .before .before .before .before .before .before .before .before .before .before .before .before .before .field2 .ensures) ∙ c .before .before .before .before .before .before .before .before .before .before .before .before .b .given .1,
-      sym (c .before .before .before .before .before .before .before .before .before .before .field3 .ensures) ∙ c .before .before .before .before .before .before .before .before .d .given .1,
-      sym (c .before .before .before .before .before .before .field4 .ensures) ∙ c .before .before .before .before .m .given .1,
-      sym (c .before .before .field5 .ensures) ∙ c .enum-told5 .given .1,
-    )
+returns-5 c = then-bad _ _ _ _ (line-m (c .before .before .before .before)) (c .before .before .field5 .ensures) (c .enum-told5 .given .1)
 
 returns-6 : tie.Need-returns-6
-unfolding firstLineAt
-returns-6 c =
-    simp (
-      sym (c .before .before .before .before .before .before .before .before .before .before .before .before .before .before .before .before .before .before .before .field .ensures) ∙ c .before .before .before .before .before .before .before .before .before .before .before .before .before .before .before .before .before .n .given .1,
-      sym (c .before .before .before .before .before .before .before .before .before .before .before .before .before .before .before .field2 .ensures) ∙ c .before .before .before .before .before .before .before .before .before .before .before .before .before .b .given .1,
-      sym (c .before .before .before .before .before .before .before .before .before .before .before .field3 .ensures) ∙ c .before .before .before .before .before .before .before .before .before .d .given .1,
-      sym (c .before .before .before .before .before .before .before .field4 .ensures) ∙ c .before .before .before .before .before .m .given .1,
-      sym (c .before .before .before .field5 .ensures) ∙ c .before .r .given .1,
-    )
+returns-6 c = sym (line-r (c .before))
 
 pub first-line-spec : {M : Type 1} → statement M
 first-line-spec =

@@ -1,13 +1,33 @@
 -- `text::number::number_at` meets its contract: each return has passed the tests before it, on the digits read. Assumes nothing.
 use native.Mathlib.Omega.{arith}
-use mathlib.Core.Path.{sym}
-use Prim.Native.Nat.{_+_}
-use borrow.Author.Tests.{le-leb, lt-leb, eq-eqb, ne-eqb}
+use mathlib.Core.Path.{_≡_, sym}
+use Prim.Native.Nat.{_+_, _*_, _<_, _≤_}
+use borrow.Author.Tests.{le-leb, lt-leb, eq-eqb}
 use Rattle.text.specs.Parsing.{numberAt}
-use Rattle.text.proofs.Numbers.{digit-in}
+use Rattle.text.specs.declared.number.Parsed.the-variants.{Value}
+use Rattle.text.proofs.Numbers.{digit-in, read-one, read-two, read-three}
 use borrow.Author.Needs.{needs}
 use Rattle.text.proofs.number.number_at.Statement.{statement}
 use Rattle.text.proofs.number.number_at.Tie as tie
+
+-- the number, by its third digit
+digits-read : (k : tie.After-digit-at3) →
+    let a = k .before .before .before .before .before .before .before .args in
+    let d1 = k .before .before .before .before .before .digit-at .result in
+    let d2 = k .before .before .digit-at2 .result in
+    let d3 = k .digit-at3 .result in
+    (10 ≤ d3 → numberAt (a .text .now) (a .at) ≡ Value (d1 * 10 + d2) (a .at + 2))
+    × (d3 < 10 → numberAt (a .text .now) (a .at) ≡ Value (d1 * 100 + d2 * 10 + d3) (a .at + 3))
+digits-read k =
+    let a = k .before .before .before .before .before .before .before .args in
+    let d1 = k .before .before .before .before .before .digit-at in
+    let d2 = k .before .before .digit-at2 in
+    let e1 = sym (d1 .ensures) in
+    let e2 = sym (d2 .ensures) in
+    let e3 = sym (k .digit-at3 .ensures) in (
+      λ h. read-two (a .text .now) (a .at) (d1 .result) (d2 .result) _ (omega arith) (omega arith) (omega arith) h e1 e2 e3,
+      λ h. read-three (a .text .now) (a .at) (d1 .result) (d2 .result) _ (omega arith) (omega arith) (omega arith) h e1 e2 e3,
+    )
 
 digit-at-requires : tie.Need-digit-at-requires
 digit-at-requires c κs = search needs
@@ -29,8 +49,11 @@ digit-at-requires-2 : tie.Need-digit-at-requires-2
 digit-at-requires-2 c κs = search needs
 
 returns-3 : tie.Need-returns-3
-unfolding numberAt
-returns-3 c = simp (sym (c .before .before .before .before .digit-at .ensures), sym (c .before .digit-at2 .ensures), lt-leb _ _ (c .before .before .before .if1 .left), ne-eqb _ _ (c .before .before .if2 .left), le-leb _ _ (c .if3 .taken))
+returns-3 c =
+    let a = c .before .before .before .before .before .before .args in
+    let d1 = c .before .before .before .before .digit-at in
+    let d2 = c .before .digit-at2 in
+    sym (read-one (a .text .now) (a .at) (d1 .result) (d2 .result) (omega arith) (omega arith) (sym (d1 .ensures)) (sym (d2 .ensures)))
 
 add-j : tie.Need-add-j
 add-j c =
@@ -47,8 +70,7 @@ add-t10 : tie.Need-add-t10
 add-t10 c = search needs
 
 returns-4 : tie.Need-returns-4
-unfolding numberAt
-returns-4 c = simp (sym (c .before .before .before .before .before .before .digit-at .ensures), sym (c .before .before .before .digit-at2 .ensures), sym (c .before .digit-at3 .ensures), lt-leb _ _ (c .before .before .before .before .before .if1 .left), ne-eqb _ _ (c .before .before .before .before .if2 .left), lt-leb _ _ (c .before .before .if3 .left), le-leb _ _ (c .if4 .taken))
+returns-4 c = sym (digits-read (c .before) .0 (c .if4 .taken))
 
 mul-t11 : tie.Need-mul-t11
 mul-t11 c = search needs
@@ -68,8 +90,7 @@ add-t15 c =
     omega (arith, digit-in (a .text .now) (a .at + 2) (omega arith))
 
 returns-5 : tie.Need-returns-5
-unfolding numberAt
-returns-5 c = simp (sym (c .before .before .before .before .before .before .digit-at .ensures), sym (c .before .before .before .digit-at2 .ensures), sym (c .before .digit-at3 .ensures), lt-leb _ _ (c .before .before .before .before .before .if1 .left), ne-eqb _ _ (c .before .before .before .before .if2 .left), lt-leb _ _ (c .before .before .if3 .left), lt-leb _ _ (c .if4 .left))
+returns-5 c = sym (digits-read (c .before) .1 (c .if4 .left))
 
 pub number-at-spec : {M : Type 1} → statement M
 number-at-spec =

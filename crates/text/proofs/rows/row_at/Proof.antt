@@ -1,12 +1,13 @@
 -- `text::rows::row_at` meets its contract: the characters from place i on are the bits read so far; a row has a digit below 2 at each place, and LF after.
 -- Assumes nothing.
-use mathlib.Core.Path.{_≡_}
+use mathlib.Core.Path.{_≡_, ap, _∙_}
 use mathlib.Core.List.{_++_}
 use Prim.Native.Nat.{_+_, _-_, _^_, _<_, _≤_}
 use native.Mathlib.Omega.{arith}
 use borrow.Author.Needs.{needs}
 use lib.ListN.{drop}
 use Rattle.text.specs.Lines.{bits}
+use Rattle.text.specs.Parsing.{digitAt}
 use Rattle.text.proofs.RowLines.{row-in, row-ends, row-digit, turn-low, turn-is, row-fits, row-done}
 use Rattle.text.proofs.rows.row_at.Statement.{statement}
 use Rattle.text.proofs.rows.row_at.Tie as tie
@@ -42,11 +43,11 @@ loop-holds c =
     let z : a .n - a .n ≡ 0 = omega arith in
     (omega arith, rw z (omega arith), rw z)
 
-sub-i : tie.Need-sub-i Inv-loop μ-loop
-sub-i c = omega arith
-
 add-digit-at : tie.Need-add-digit-at Inv-loop μ-loop
 add-digit-at c = omega arith
+
+sub-digit-at : tie.Need-sub-digit-at Inv-loop μ-loop
+sub-digit-at c = omega arith
 
 digit-at-requires : tie.Need-digit-at-requires Inv-loop μ-loop
 digit-at-requires c κs = search needs
@@ -56,7 +57,8 @@ returns-4 c =
     λ v rest e.
     let a = c .before .before .before .before .before .before .before .before .before .args in
     let i = c .before .before .before .loop .i in
-    omega (arith, row-digit (a .text .now) (a .at) (a .n) v rest e (i - 1) (omega arith), c .before .digit-at .ensures)
+    let read : c .before .digit-at .result ≡ digitAt (a .text .now) (a .at + (i - 1)) = c .before .digit-at .ensures ∙ ap (digitAt (a .text .now)) (omega arith) in
+    omega (arith, row-digit (a .text .now) (a .at) (a .n) v rest e (i - 1) (omega arith))
 
 mul-v : tie.Need-mul-v Inv-loop μ-loop
 mul-v c =
@@ -70,6 +72,9 @@ add-v c =
     let l = c .before .before .before .loop in
     omega (arith, row-fits (a .n) (l .i) (l .v) (c .before .digit-at .result) (omega arith) (omega arith) (omega arith) (l .inv .1) (omega arith))
 
+sub-i : tie.Need-sub-i Inv-loop μ-loop
+sub-i c = omega arith
+
 loop-less : tie.Need-loop-less Inv-loop μ-loop
 loop-less c = omega arith
 
@@ -79,10 +84,11 @@ loop-again c =
     let l = c .before .before .before .loop in
     let d = c .before .digit-at in
     let some : 0 < l .i = omega arith in
+    let read : d .result ≡ digitAt (a .text .now) (a .at + (l .i - 1)) = d .ensures ∙ ap (digitAt (a .text .now)) (omega arith) in
     let digit : d .result < 2 = omega arith in (
       omega arith,
-      turn-low (a .text .now) (a .at) (a .n) (l .i) (l .v) (d .result) some (l .inv .0) (l .inv .1) (l .inv .2) (d .ensures) digit,
-      turn-is (a .text .now) (a .at) (a .n) (l .i) (l .v) (d .result) some (l .inv .0) (l .inv .1) (l .inv .2) (d .ensures) digit,
+      turn-low (a .text .now) (a .at) (a .n) (l .i) (l .v) (d .result) some (l .inv .0) (l .inv .1) (l .inv .2) read digit,
+      turn-is (a .text .now) (a .at) (a .n) (l .i) (l .v) (d .result) some (l .inv .0) (l .inv .1) (l .inv .2) read digit,
     )
 
 add-t10 : tie.Need-add-t10 Inv-loop μ-loop
@@ -110,12 +116,13 @@ row-at-spec =
     shared-slice-read-if3
     returns-3
     loop-holds
-    sub-i
     add-digit-at
+    sub-digit-at
     digit-at-requires
     returns-4
     mul-v
     add-v
+    sub-i
     loop-less
     loop-again
     add-t10

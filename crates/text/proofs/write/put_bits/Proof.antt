@@ -1,10 +1,10 @@
--- `text::write::put_bits` meets its contract: after i turns the first i characters stand there. Assumes nothing.
+-- `text::write::put_bits` meets its contract: with i bits left, the characters of those before them stand there. Assumes nothing.
 use mathlib.Core.Path.{_≡_, refl, sym, ap, _∙_}
 use Prim.Native.Nat.{ℕ, _+_, _-_, _/_, _%_, _≤_}
 use native.Mathlib.Omega.{arith}
-use lib.ListN.{length, length-set}
+use lib.ListN.{length, set, length-set}
 use Rattle.text.specs.Lines.{bits}
-use Rattle.text.specs.Written.{Wrote}
+use Rattle.text.specs.Written.{put, Wrote}
 use Rattle.text.proofs.RowLines.{length-bits}
 use Rattle.text.proofs.Bits.{shifted, shifted-more, bits-more}
 use Rattle.text.proofs.Put.{wrote-none, wrote-byte}
@@ -12,14 +12,18 @@ use Rattle.text.proofs.write.put_bits.Statement.{statement}
 use Rattle.text.proofs.write.put_bits.Tie as tie
 
 abbrev Inv-loop : tie.InvT-loop
-Inv-loop room₀ at v n p₀ x₀ i₀ room p x i = (i ≤ n) × (p ≡ at + i) × (length room ≡ length room₀) × (x ≡ shifted v i) × Wrote room₀ at (bits i v) room p
+Inv-loop room₀ at v n x₀ i₀ room x i = (i ≤ n) × (length room ≡ length room₀) × (x ≡ shifted v (n - i)) × Wrote room₀ at (bits (n - i) v) room (at + (n - i))
 
 abbrev μ-loop : tie.MeasureT-loop
-μ-loop room₀ at v n p₀ x₀ i₀ room p x i = n - i
+μ-loop room₀ at v n x₀ i₀ room x i = i
 
 loop-holds : tie.Need-loop-holds Inv-loop μ-loop
 unfolding bits
-loop-holds c = (omega arith, omega arith, refl, refl, wrote-none (c .args .room .now) (c .args .at))
+loop-holds c =
+    let a = c .args in
+    let z : a .n - a .n ≡ 0 = omega arith in
+    let f : a .at + 0 ≡ a .at = omega arith in
+    (omega arith, refl, rw z refl, rw (z, f) (wrote-none (a .room .now) (a .at)))
 
 cast-room : tie.Need-cast-room Inv-loop μ-loop
 cast-room c = omega arith
@@ -27,14 +31,17 @@ cast-room c = omega arith
 add-room : tie.Need-add-room Inv-loop μ-loop
 add-room c = omega arith
 
+add-room-2 : tie.Need-add-room-2 Inv-loop μ-loop
+add-room-2 c = omega arith
+
+sub-room : tie.Need-sub-room Inv-loop μ-loop
+sub-room c = omega arith
+
 slice-write-room : tie.Need-slice-write-room Inv-loop μ-loop
 slice-write-room c = omega arith
 
-add-p : tie.Need-add-p Inv-loop μ-loop
-add-p c = omega arith
-
-add-i : tie.Need-add-i Inv-loop μ-loop
-add-i c = omega arith
+sub-i : tie.Need-sub-i Inv-loop μ-loop
+sub-i c = omega arith
 
 loop-less : tie.Need-loop-less Inv-loop μ-loop
 loop-less c = omega arith
@@ -42,23 +49,30 @@ loop-less c = omega arith
 loop-again : tie.Need-loop-again Inv-loop μ-loop
 loop-again c =
     let l = c .before .loop in
-    let a = c .before .before .args in (
+    let a = c .before .before .args in
+    let k = a .n - l .i in
+    let next : a .n - (l .i - 1) ≡ k + 1 = omega arith in
+    let w = wrote-byte (a .room .now) (a .at) (bits k (a .v)) (l .room) (a .at + k) (l .inv .3) (48 + l .x % 2) (omega (arith, length-bits k (a .v))) in (
       omega arith,
-      omega arith,
-      simp length-set (l .inv .2),
-      ap (λ (x : ℕ). x / 2) (l .inv .3) ∙ sym (shifted-more (a .v) (l .i)),
-      rw (bits-more (a .v) (l .i), ← l .inv .3)
-          (wrote-byte (a .room .now) (a .at) (bits (l .i) (a .v)) (l .room) (l .p) (l .inv .4) (48 + l .x % 2) (omega (arith, length-bits (l .i) (a .v)))),
+      simp length-set (l .inv .1),
+      ap (λ (x : ℕ). x / 2) (l .inv .2) ∙ sym (shifted-more (a .v) k) ∙ ap (shifted (a .v)) (sym next),
+      record {
+        place = omega (arith, length-bits (a .n - (l .i - 1)) (a .v));
+        is = ap (λ (p : ℕ). set (l .room) p (48 + l .x % 2)) (omega arith) ∙ w .is ∙ ap (put (a .room .now) (a .at)) (rw (next, bits-more (a .v) k, ← l .inv .2) refl);
+      },
     )
 
+add-result : tie.Need-add-result Inv-loop μ-loop
+add-result c = omega arith
+
 same-length : tie.Need-same-length Inv-loop μ-loop
-same-length c = c .before .loop .inv .2
+same-length c = c .before .loop .inv .1
 
 returns : tie.Need-returns Inv-loop μ-loop
 returns c =
     let l = c .before .loop in
-    let e : l .i ≡ c .before .before .args .n = omega arith in
-    rw e at (l .inv .4)
+    let e : c .before .before .args .n - l .i ≡ c .before .before .args .n = omega arith in
+    rw e at (l .inv .3)
 
 pub put-bits-spec : {M : Type 1} → statement M
 put-bits-spec =
@@ -69,10 +83,12 @@ put-bits-spec =
     loop-holds
     cast-room
     add-room
+    add-room-2
+    sub-room
     slice-write-room
-    add-p
-    add-i
+    sub-i
     loop-less
     loop-again
+    add-result
     same-length
     returns)

@@ -1,10 +1,10 @@
 -- `text::write::put_decimal` meets its contract: what is left of the number and what is written are its digits. Assumes nothing.
 use mathlib.Core.Path.{ap}
-use Prim.Native.Nat.{ℕ, _+_}
+use Prim.Native.Nat.{ℕ, _+_, _<_, _≤_}
 use native.Mathlib.Omega.{arith}
 use borrow.Author.Needs.{needs}
-use lib.ListN.{length-set}
-use Rattle.text.proofs.Decimal.{Partly, partly-none, partly-fits, partly-length, partly-some, partly-more, partly-all}
+use lib.ListN.{length, length-set}
+use Rattle.text.proofs.Decimal.{Partly, partly-none, partly-length, partly-inside, partly-more, partly-all}
 use Rattle.text.proofs.write.put_decimal.Statement.{statement}
 use Rattle.text.proofs.write.put_decimal.Tie as tie
 
@@ -13,6 +13,13 @@ Inv-loop room₀ at v end i₀ x₀ room i x = Partly room₀ at v room i x
 
 abbrev μ-loop : tie.MeasureT-loop
 μ-loop room₀ at v end i₀ x₀ room i x = x
+
+-- the next digit's place is in the room
+inside : (c : tie.At-loop Inv-loop μ-loop) → (c .before .before .before .args .at < c .loop .i) × (c .loop .i ≤ length (c .loop .room))
+inside c =
+    let a = c .before .before .before .args in
+    let l = c .loop in
+    partly-inside (a .room .now) (a .at) (a .v) (omega arith) (omega arith) (l .room) (l .i) (l .x) (l .inv)
 
 decimal-size-requires : tie.Need-decimal-size-requires Inv-loop μ-loop
 decimal-size-requires c κs = search needs
@@ -26,10 +33,7 @@ loop-holds c =
     partly-none (a .room .now) (a .at) (a .v) (omega arith) (omega arith) _ (ap (λ (k : ℕ). a .at + k) (c .decimal-size .ensures))
 
 sub-i : tie.Need-sub-i Inv-loop μ-loop
-sub-i c =
-    let a = c .before .before .before .before .args in
-    let l = c .before .loop in
-    omega (arith, partly-some (a .room .now) (a .at) (a .v) (omega arith) (omega arith) (l .room) (l .i) (l .x) (l .inv), l .inv .place)
+sub-i c = omega (arith, inside (c .before))
 
 cast-room : tie.Need-cast-room Inv-loop μ-loop
 cast-room c = omega arith
@@ -38,16 +42,7 @@ add-room : tie.Need-add-room Inv-loop μ-loop
 add-room c = omega arith
 
 slice-write-room : tie.Need-slice-write-room Inv-loop μ-loop
-slice-write-room c =
-    let a = c .before .before .before .before .args in
-    let l = c .before .loop in
-    omega (
-      arith,
-      partly-some (a .room .now) (a .at) (a .v) (omega arith) (omega arith) (l .room) (l .i) (l .x) (l .inv),
-      partly-fits (a .room .now) (a .at) (a .v) (omega arith) (omega arith) (l .room) (l .i) (l .x) (l .inv),
-      partly-length (a .room .now) (a .at) (a .v) (omega arith) (omega arith) (l .room) (l .i) (l .x) (l .inv),
-      l .inv .place,
-    )
+slice-write-room c = omega (arith, inside (c .before))
 
 loop-less : tie.Need-loop-less Inv-loop μ-loop
 loop-less c = omega arith
@@ -65,16 +60,7 @@ add-room-2 : tie.Need-add-room-2 Inv-loop μ-loop
 add-room-2 c = omega arith
 
 slice-write-room-2 : tie.Need-slice-write-room-2 Inv-loop μ-loop
-slice-write-room-2 c =
-    let a = c .before .before .before .before .args in
-    let l = c .before .loop in
-    omega (
-      arith,
-      partly-some (a .room .now) (a .at) (a .v) (omega arith) (omega arith) (l .room) (l .i) (l .x) (l .inv),
-      partly-fits (a .room .now) (a .at) (a .v) (omega arith) (omega arith) (l .room) (l .i) (l .x) (l .inv),
-      partly-length (a .room .now) (a .at) (a .v) (omega arith) (omega arith) (l .room) (l .i) (l .x) (l .inv),
-      l .inv .place,
-    )
+slice-write-room-2 c = omega (arith, inside (c .before))
 
 same-length : tie.Need-same-length Inv-loop μ-loop
 same-length c =

@@ -1,9 +1,8 @@
 -- `text::write::put_line` meets its contract: the word, the number, the line's end. Assumes nothing.
-use mathlib.Core.List.{_++_}
 use native.Mathlib.Omega.{arith}
-use lib.ListN.{length-set, length-append}
+use lib.ListN.{length-set}
 use Rattle.text.specs.Lines.{decimal}
-use Rattle.text.proofs.Put.{wrote-more, wrote-byte, wrote-length, length-word-line}
+use Rattle.text.proofs.Put.{wrote-length, length-word-line, line-length, line-inside, line-wrote}
 use Rattle.text.proofs.write.put_line.Statement.{statement}
 use Rattle.text.proofs.write.put_line.Tie as tie
 
@@ -20,34 +19,27 @@ put-decimal-requires c κs =
 slice-write-room : tie.Need-slice-write-room
 slice-write-room c =
     let a = c .before .before .before .before .before .before .before .before .before .before .args in
-    let w = c .before .before .before .before .before .before .put-word .ensures in
-    let v = c .before .before .put-decimal .ensures in
-    let long = length-word-line (a .word .now) (decimal (a .v)) in
-    let both = wrote-more (a .room .now) (a .at) (a .word .now) _ _ w (decimal (a .v)) _ _ v (omega arith) in
-    omega (arith, w .place, v .place, wrote-length (a .room .now) (a .at) (a .word .now ++ decimal (a .v)) _ _ both (omega (arith, length-append (a .word .now) (decimal (a .v)))))
+    let word = c .before .before .before .before .before .before .put-word .ensures in
+    line-inside (a .room .now) (a .at) (a .word .now) (decimal (a .v)) _ _ _ _ word (c .before .before .put-decimal .ensures) (omega arith)
 
 add-result : tie.Need-add-result
 add-result c =
     let a = c .before .before .before .before .before .before .before .before .before .before .args in
-    omega (arith, c .before .before .before .before .before .before .put-word .ensures .place, c .before .before .put-decimal .ensures .place, length-word-line (a .word .now) (decimal (a .v)))
+    let word = c .before .before .before .before .before .before .put-word .ensures in
+    let number = c .before .before .put-decimal .ensures in
+    omega (arith, word .place, number .place, length-word-line (a .word .now) (decimal (a .v)))
 
 same-length : tie.Need-same-length
 same-length c =
     let a = c .before .before .before .before .before .before .before .before .before .before .args in
-    let w = c .before .before .before .before .before .before .put-word .ensures in
-    let v = c .before .before .put-decimal .ensures in
-    let long = length-word-line (a .word .now) (decimal (a .v)) in
-    let both = wrote-more (a .room .now) (a .at) (a .word .now) _ _ w (decimal (a .v)) _ _ v (omega arith) in
-    simp length-set (wrote-length (a .room .now) (a .at) (a .word .now ++ decimal (a .v)) _ _ both (omega (arith, length-append (a .word .now) (decimal (a .v)))))
+    let word = c .before .before .before .before .before .before .put-word .ensures in
+    simp length-set (line-length (a .room .now) (a .at) (a .word .now) (decimal (a .v)) _ _ _ _ word (c .before .before .put-decimal .ensures) (omega arith))
 
 returns : tie.Need-returns
 returns c =
     let a = c .before .before .before .before .before .before .before .before .before .before .args in
-    let w = c .before .before .before .before .before .before .put-word .ensures in
-    let v = c .before .before .put-decimal .ensures in
-    let long = length-word-line (a .word .now) (decimal (a .v)) in
-    let both = wrote-more (a .room .now) (a .at) (a .word .now) _ _ w (decimal (a .v)) _ _ v (omega arith) in
-    wrote-byte (a .room .now) (a .at) (a .word .now ++ decimal (a .v)) _ _ both 10 (omega (arith, length-append (a .word .now) (decimal (a .v))))
+    let word = c .before .before .before .before .before .before .put-word .ensures in
+    line-wrote (a .room .now) (a .at) (a .word .now) (decimal (a .v)) _ _ _ _ word (c .before .before .put-decimal .ensures) (omega arith)
 
 pub put-line-spec : {M : Type 1} → statement M
 put-line-spec =
