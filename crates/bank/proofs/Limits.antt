@@ -6,18 +6,8 @@ use lib.Dec.{ltb, leb}
 use Rattle.algebra.proofs.Search.{and-l, and-r}
 use borrow.Author.Tests.{ltb-true, leb-true, lt-ltb, le-leb}
 use Rattle.bank.specs.Limits.{ROWS, BYTES}
-use Rattle.bank.specs.Geometry.{inLimits}
+use Rattle.bank.specs.Geometry.{Allowed, inLimits}
 use Rattle.bank.specs.declared.Geometry.{Geometry}
-
--- the limits, one by one
-pub record Allowed (g : Geometry) : Type 0 where
-  pub n-low : 2 ≤ g .n
-  pub n-high : g .n ≤ ROWS
-  pub block-below : g .b < g .m
-  pub memory-below : g .m < g .n
-  pub drives-fit : g .b + g .d ≤ g .m
-  pub r-low : 1 ≤ g .r
-  pub r-high : g .r ≤ BYTES
 
 pub limits→allowed : (g : Geometry) → inLimits g ≡ true → Allowed g
 unfolding inLimits

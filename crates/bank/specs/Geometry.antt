@@ -1,6 +1,6 @@
 -- What is a bank of drives, and where in it does an address lie? Assumes nothing.
 use mathlib.Core.Bool.{Bool, _&&_}
-use Prim.Native.Nat.{ℕ, _+_, _*_, _/_, _%_, _^_}
+use Prim.Native.Nat.{ℕ, _+_, _-_, _*_, _/_, _%_, _^_, _<_, _≤_}
 use lib.Dec.{ltb, leb}
 use Rattle.bank.specs.Limits.{ROWS, BYTES}
 use Rattle.bank.specs.declared.Geometry.{Geometry}
@@ -9,6 +9,16 @@ use Rattle.bank.specs.declared.Geometry.{Geometry}
 unfoldable pub inLimits : Geometry → Bool
 inLimits g =
     leb 2 (g .n) && leb (g .n) ROWS && ltb (g .b) (g .m) && ltb (g .m) (g .n) && leb (g .b + g .d) (g .m) && leb 1 (g .r) && leb (g .r) BYTES
+
+-- the same, one by one
+pub record Allowed (g : Geometry) : Type 0 where
+  pub n-low : 2 ≤ g .n
+  pub n-high : g .n ≤ ROWS
+  pub block-below : g .b < g .m
+  pub memory-below : g .m < g .n
+  pub drives-fit : g .b + g .d ≤ g .m
+  pub r-low : 1 ≤ g .r
+  pub r-high : g .r ≤ BYTES
 
 -- N, the records of a run
 abbrev pub records : Geometry → ℕ
@@ -25,6 +35,10 @@ drives g = 2 ^ g .d
 -- M, the records that memory holds
 abbrev pub memory : Geometry → ℕ
 memory g = 2 ^ g .m
+
+-- N/M, the memoryloads of an area
+abbrev pub loads : Geometry → ℕ
+loads g = 2 ^ (g .n - g .m)
 
 -- M/(BD), the stripes of a memoryload: so many reads, and so many writes, has each
 unfoldable pub stripes : Geometry → ℕ

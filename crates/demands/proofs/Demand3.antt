@@ -15,7 +15,7 @@ use Rattle.planning.specs.declared.Plan.{Plan}
 use Rattle.planning.specs.Pass.{performed, total, passSteps, phases, Route}
 use Rattle.planning.specs.Making.{passesFor}
 use Rattle.planning.specs.Stored.{planFor, planOf, routeOf}
-use Rattle.planning.proofs.Runs.{Runs}
+use Rattle.planning.specs.Running.{Runs}
 use Rattle.planning.proofs.Made.{made-length, made-performs, made-runs, made-route}
 use Rattle.planning.proofs.Stored.{route-length}
 use Rattle.plan.specs.declared.make.Planned.{Planned}

@@ -8,18 +8,16 @@ use native.Mathlib.Omega.{arith}
 use lib.Arith.{digits-div}
 use lib.ListN.{getD, length, take, drop}
 use lib.Seq.{take-take}
-use Rattle.bank.proofs.Limits.{Allowed}
-use Rattle.bank.specs.Geometry.{block, drives, records}
+use Rattle.bank.specs.Geometry.{Allowed, block, drives, records}
 use Rattle.bank.specs.Limits.{PASSES, ROWS}
 use Rattle.bank.specs.declared.Geometry.{Geometry}
 use Rattle.moving.proofs.Calls.{from-from}
-use Rattle.moving.proofs.Fits.{Fits}
 use Rattle.moving.proofs.Numbers.{pass-of-lt, pass-pos}
 use Rattle.moving.specs.Call.{movesFrom}
 use Rattle.moving.specs.Number.{loadOf, passOf, phaseOf, turnOf}
-use Rattle.moving.specs.Step.{Buffers, byPhase, move, readMove, writeMove}
+use Rattle.moving.specs.Step.{Buffers, Fits, byPhase, move, readMove, writeMove}
 use Rattle.plan.proofs.Judging.{records-small, total-small}
-use Rattle.planning.proofs.Runs.{PassRuns, Runs}
+use Rattle.planning.specs.Running.{PassRuns, Runs}
 use Rattle.planning.proofs.Stored.{route-at, route-length}
 use Rattle.planning.specs.Pass.{Pass, Route, loadSteps, passAt, passSteps, phases, total}
 use Rattle.planning.specs.Stored.{routeOf, storedPass}

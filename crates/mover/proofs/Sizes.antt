@@ -5,8 +5,7 @@ use native.Mathlib.Nat.{add-zero, div-le-self, mul-le-mul-left}
 use native.Mathlib.Omega.{arith}
 use lib.Pow.{pow-mono, pow-pos}
 use Rattle.bank.specs.declared.Geometry.{Geometry}
-use Rattle.bank.specs.Geometry.{block, drives, memory, records, stripes}
-use Rattle.bank.proofs.Limits.{Allowed}
+use Rattle.bank.specs.Geometry.{Allowed, block, drives, memory, records, stripes}
 use Rattle.moving.proofs.Drives.{first-lt}
 use Rattle.moving.specs.Blocks.{blockStart}
 

@@ -12,11 +12,11 @@ use lib.Pow.{pow-mono, pow-pos}
 use lib.ListN.{length, getD, take, drop}
 use Rattle.algebra.specs.Matrix.{apply, columns, target}
 use Rattle.algebra.specs.Vector.{comb}
-use Rattle.bank.specs.Geometry.{block, drives, memory, records, stripes}
+use Rattle.bank.specs.Geometry.{block, drives, loads, memory, records, stripes}
 use Rattle.bank.specs.declared.Geometry.{Geometry}
 use Rattle.moving.proofs.Bridge.{block-base, code-block, code-drive, code-place, codeBlock, codePlace, place-base, read-laid, stripeBytes, write-as-code}
 use Rattle.moving.proofs.Bytes.{each-ext}
-use Rattle.moving.proofs.Numbers.{loads, memory-is, pow-split, records-is}
+use Rattle.moving.proofs.Numbers.{memory-is, pow-split, records-is}
 use Rattle.moving.specs.Blocks.{blockStart, placeIn, targetBlock}
 use Rattle.moving.specs.Bytes.{copied, laid, landed}
 use Rattle.moving.specs.Step.{readFrom, readTakes, writeFrom, writeTakes}

@@ -4,16 +4,14 @@ use mathlib.Core.List.{List}
 use Prim.Native.Nat.{ℕ, zero, suc, _+_, _*_, _<_, _≤_}
 use lib.ListN.{length, getD, take, drop}
 use Rattle.bank.specs.Limits.{ROWS}
-use Rattle.bank.specs.Geometry.{memory, records, stripes}
+use Rattle.bank.specs.Geometry.{loads, memory, records, stripes}
 use Rattle.planning.specs.declared.Plan.{Plan}
 use Rattle.planning.specs.Pass.{total}
 use Rattle.planning.specs.Stored.{routeOf}
-use Rattle.planning.proofs.Runs.{Runs}
+use Rattle.planning.specs.Running.{Runs}
 use Rattle.moving.specs.Bytes.{copied}
 use Rattle.moving.specs.Number.{loadOf, phaseOf, turnOf}
-use Rattle.moving.specs.Step.{Buffers, byPhase, readFrom, readMove, readTakes, writeFrom, writeMove, writeTakes}
-use Rattle.moving.proofs.Fits.{Fits}
-use Rattle.moving.proofs.Numbers.{loads}
+use Rattle.moving.specs.Step.{Buffers, Fits, byPhase, readFrom, readMove, readTakes, writeFrom, writeMove, writeTakes}
 use Rattle.mover.specs.Tables.{Prepared, passFor, tablesFor}
 use Rattle.mover.specs.Turns.{bare}
 use Rattle.mover.specs.declared.tables.Tables.{Tables}

@@ -5,12 +5,10 @@ use Prim.Native.Nat.{ℕ, _-_, _*_, _/_, _<_}
 use lib.ListN.{length, take, replicate}
 use Rattle.bank.specs.Limits.{ROWS}
 use Rattle.bank.specs.declared.Geometry.{Geometry}
-use Rattle.bank.specs.Geometry.{block, memory, records, stripes}
-use Rattle.bank.proofs.Limits.{Allowed}
+use Rattle.bank.specs.Geometry.{Allowed, block, loads, memory, records, stripes}
 use Rattle.algebra.specs.Matrix.{apply, columns, inverse}
-use Rattle.planning.proofs.Runs.{PassRuns}
+use Rattle.planning.specs.Running.{PassRuns}
 use Rattle.planning.specs.Pass.{Pass}
-use Rattle.moving.proofs.Numbers.{loads}
 use Rattle.mover.specs.declared.tables.Tables.{Tables}
 
 -- the pass of n of the stored rows, and a complement

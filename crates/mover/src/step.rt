@@ -1,6 +1,6 @@
 // A step that is asked for.
 ghost use mathlib.Core.Path.{_≡_};
-ghost use Rattle.bank.proofs.Limits.{Allowed};
+ghost use Rattle.bank.specs.Geometry.{Allowed};
 ghost use Rattle.planning.specs.Pass.{total};
 ghost use Rattle.planning.specs.Stored.{routeOf};
 ghost use Rattle.moving.specs.Call.{turnNumber};

@@ -1,7 +1,6 @@
 // Which pass, load, phase and turn is a step?
 ghost use mathlib.Core.Path.{_≡_};
-ghost use Rattle.bank.proofs.Limits.{Allowed};
-ghost use Rattle.bank.specs.Geometry.{stripes};
+ghost use Rattle.bank.specs.Geometry.{Allowed, stripes};
 ghost use Rattle.planning.specs.Pass.{passSteps};
 ghost use Rattle.moving.specs.Number.{passOf};
 ghost use Rattle.mover.specs.Turns.{bare, turnAt};

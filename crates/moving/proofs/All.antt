@@ -13,16 +13,14 @@ use Rattle.algebra.proofs.Inverse.{source-lt}
 use Rattle.algebra.proofs.Linear.{apply-lt}
 use Rattle.algebra.proofs.Singular.{source-target}
 use Rattle.algebra.specs.Matrix.{apply, target}
-use Rattle.bank.proofs.Limits.{Allowed}
-use Rattle.bank.specs.Geometry.{memory, records}
+use Rattle.bank.specs.Geometry.{Allowed, memory, records}
 use Rattle.bank.specs.declared.Geometry.{Geometry}
 use Rattle.moving.proofs.Bytes.{same-record}
 use Rattle.moving.proofs.Load.{by-eq}
 use Rattle.moving.proofs.Pass.{PassDone, pass-done}
 use Rattle.moving.specs.Bytes.{recordOf}
-use Rattle.moving.specs.Step.{Buffers, areaBy, areaOf, even, moves, sourceOf}
-use Rattle.moving.proofs.Fits.{Fits}
-use Rattle.planning.proofs.Runs.{PassRuns}
+use Rattle.moving.specs.Step.{Buffers, Fits, areaBy, areaOf, even, moves, sourceOf}
+use Rattle.planning.specs.Running.{PassRuns}
 use Rattle.planning.specs.Pass.{Pass, Route, passAt, passSteps, performed, total}
 
 even-suc : (p : ℕ) → even (suc p) ≡ not (even p)

@@ -15,17 +15,16 @@ use lib.ListN.{getD, length, take}
 use Rattle.algebra.proofs.Search.{and-l, and-r}
 use Rattle.algebra.specs.Matrix.{apply, columns, inverse, target}
 use Rattle.algebra.specs.Vector.{comb, units}
-use Rattle.bank.proofs.Limits.{Allowed}
-use Rattle.bank.specs.Geometry.{block, blockAt, driveAt, drives, loadAt, memory, records, stripeAt, stripes}
+use Rattle.bank.specs.Geometry.{Allowed, block, blockAt, driveAt, drives, loadAt, loads, memory, records, stripeAt, stripes}
 use Rattle.bank.specs.declared.Geometry.{Geometry}
 use Rattle.moving.proofs.Bytes.{each-ext, lt-or-ge, record-of}
 use Rattle.moving.proofs.Drives.{block-place, block-test, first-lt, target-block-in}
 use Rattle.moving.proofs.Low.{block-drive, on-load, place-block, place-drive, place-form, place-lt}
-use Rattle.moving.proofs.Numbers.{loads, pow-split, stripe-pos}
+use Rattle.moving.proofs.Numbers.{pow-split, stripe-pos}
 use Rattle.moving.specs.Blocks.{blockStart, landing, placeIn, targetBlock}
 use Rattle.moving.specs.Bytes.{copied, laid, landed, within}
 use Rattle.moving.specs.Step.{readFrom, readTakes, sourceOf, writeFrom, writeTakes}
-use Rattle.planning.proofs.Runs.{PassRuns}
+use Rattle.planning.specs.Running.{PassRuns}
 use Rattle.planning.specs.Pass.{Pass}
 
 -- one of n shares of k bytes

@@ -9,10 +9,10 @@ use lib.Dec.{eqb, leb}
 use Rattle.algebra.proofs.Search.{and-both, and-l, and-r}
 use Rattle.bank.specs.Checks.{refuse}
 use Rattle.moving.proofs.Again.{move-again}
-use Rattle.moving.proofs.Fits.{Fits, Fits→fits, fits→Fits, move-fits, moves-from-fits}
+use Rattle.moving.proofs.Fits.{Fits→fits, fits→Fits, move-fits, moves-from-fits}
 use Rattle.moving.specs.Call.{Moment, buffersBy, movesFrom, nextBy, ran, readyNumber, runCount, runNumber, stepNumber, stepped, turnNumber}
 use Rattle.moving.specs.Line.{refuses}
-use Rattle.moving.specs.Step.{Buffers, fits, move}
+use Rattle.moving.specs.Step.{Buffers, Fits, fits, move}
 use Rattle.planning.specs.Pass.{Route, total}
 use Rattle.planning.specs.Running.{canRun, sound}
 use Rattle.planning.specs.Stored.{routeOf}

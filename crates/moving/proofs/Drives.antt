@@ -13,16 +13,15 @@ use lib.ListN.{length, take}
 use Rattle.algebra.proofs.Search.{and-l, and-r}
 use Rattle.algebra.specs.Matrix.{columns, inverse}
 use Rattle.algebra.specs.Vector.{comb}
-use Rattle.bank.proofs.Limits.{Allowed}
-use Rattle.bank.specs.Geometry.{block, blockAt, driveAt, drives, loadAt, memory, records, stripeAt, stripes}
+use Rattle.bank.specs.Geometry.{Allowed, block, blockAt, driveAt, drives, loadAt, loads, memory, records, stripeAt, stripes}
 use Rattle.bank.specs.declared.Geometry.{Geometry}
 use Rattle.moving.proofs.All.{target-lt}
 use Rattle.moving.proofs.Low.{bits-mid, block-low, block-split, land-block, landed-from, lands, low-block, place-block, place-of, whole-block}
-use Rattle.moving.proofs.Numbers.{load-of-lt, loads, memory-is, pass-of-lt, pow-split, stripe-lt, stripes-pow, turn-lt}
+use Rattle.moving.proofs.Numbers.{load-of-lt, memory-is, pass-of-lt, pow-split, stripe-lt, stripes-pow, turn-lt}
 use Rattle.moving.specs.Blocks.{blockStart, landing, placeIn, stepBlock, targetBlock}
 use Rattle.moving.specs.Number.{loadOf, passOf, phaseOf, turnOf}
 use Rattle.moving.specs.Step.{byPhase, readTakes, sourceOf, touches, writeFrom, writeTakes}
-use Rattle.planning.proofs.Runs.{PassRuns, Runs}
+use Rattle.planning.specs.Running.{PassRuns, Runs}
 use Rattle.planning.specs.Pass.{Pass, Route, passAt, total}
 
 -- ---- an address of a geometry

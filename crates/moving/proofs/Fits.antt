@@ -14,14 +14,8 @@ use Rattle.moving.proofs.Bytes.{length-copied}
 use Rattle.moving.specs.Bytes.{copied}
 use Rattle.moving.specs.Call.{movesFrom}
 use Rattle.moving.specs.Number.{loadOf, passOf, phaseOf, turnOf}
-use Rattle.moving.specs.Step.{Buffers, areaBy, areaOf, byPhase, even, fits, move, moves, readFrom, readMove, readTakes, withAreaBy, withMemory, writeFrom, writeMove, writeTakes}
+use Rattle.moving.specs.Step.{Fits, Buffers, areaBy, areaOf, byPhase, even, fits, move, moves, readFrom, readMove, readTakes, withAreaBy, withMemory, writeFrom, writeMove, writeTakes}
 use Rattle.planning.specs.Pass.{Pass, Route, passAt}
-
--- the three lengths, one by one
-pub record Fits (g : Geometry) (v : Buffers) : Type 0 where
-  pub area0-long : length (v .area0) ≡ records g * g .r
-  pub area1-long : length (v .area1) ≡ records g * g .r
-  pub memory-long : length (v .memory) ≡ memory g * g .r
 
 pub fits→Fits : (g : Geometry) (v : Buffers) → fits g v ≡ true → Fits g v
 unfolding fits

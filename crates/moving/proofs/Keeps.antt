@@ -9,8 +9,7 @@ use lib.ListN.{getD, length}
 use lib.Pow.{high, low}
 use lib.Seq.{ext-getD}
 use native.Mathlib.Nat.{mod-eq-of-lt, mod-lt}
-use Rattle.bank.proofs.Limits.{Allowed}
-use Rattle.bank.specs.Geometry.{loadAt, memory, stripeAt}
+use Rattle.bank.specs.Geometry.{Allowed, loadAt, memory, stripeAt}
 use Rattle.bank.specs.declared.Geometry.{Geometry}
 use Rattle.moving.proofs.Again.{area-memory, area-other, area-same, memory-area}
 use Rattle.moving.proofs.Bytes.{getD-chosen, getD-left, length-copied, record-of}

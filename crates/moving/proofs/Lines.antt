@@ -10,11 +10,11 @@ use lib.Dec.{eqb}
 use Rattle.algebra.proofs.Search.{and-l, and-r}
 use Rattle.moving.proofs.Again.{move-again}
 use Rattle.moving.proofs.Calls.{Ready, again-number, by-run, by-step, next-number, nine-means, ready-run, refused-count, refused-keeps, refused-run, run-again, run-count, run-none, run-one, run-ready, run-same, step-done, step-nine, step-ready}
-use Rattle.moving.proofs.Fits.{Fits, moves-fits}
+use Rattle.moving.proofs.Fits.{moves-fits}
 use Rattle.moving.specs.Call.{Moment, buffersBy, fresh, movesFrom, nextBy, ran, runCount, runNumber, stepNumber, stepped}
 use Rattle.moving.specs.Line.Call.{asks, runs, straysRun, straysStep}
 use Rattle.moving.specs.Line.{Call, Stray, call, inTurn, line, lineSteps, newSteps, refuses, repeated, returned, strayed, straysRefused}
-use Rattle.moving.specs.Step.{Buffers, move, moves}
+use Rattle.moving.specs.Step.{Buffers, Fits, move, moves}
 use Rattle.planning.specs.Pass.{Route, total}
 use Rattle.planning.specs.Stored.{routeOf}
 use Rattle.planning.specs.declared.Plan.{Plan}

@@ -12,8 +12,7 @@ use lib.Dec.{eqb, ltb}
 use lib.Pow.{pow-pos}
 use lib.ListN.{getD, length}
 use lib.Seq.{ext-getD}
-use Rattle.bank.proofs.Limits.{Allowed}
-use Rattle.bank.specs.Geometry.{loadAt, memory, stripeAt, stripes}
+use Rattle.bank.specs.Geometry.{Allowed, loadAt, memory, stripeAt, stripes}
 use Rattle.bank.specs.declared.Geometry.{Geometry}
 use Rattle.moving.proofs.Again.{area-memory, area-other, area-same, memory-area}
 use Rattle.moving.proofs.Bytes.{byte-in, getD-chosen, getD-copied, getD-left, length-copied, lt-or-ge}

@@ -21,9 +21,8 @@ use Rattle.moving.specs.Call.{Moment, fresh, ran, runCount, runNumber, s
 use Rattle.moving.specs.Line.Call.{runs}
 use Rattle.moving.specs.Line.{Call, inTurn, line, lineSteps, refuses, straysRefused}
 use Rattle.moving.specs.Step.{Buffers, areaBy, areaOf, fits, move, moves, touches}
-use Rattle.planning.proofs.Runs.{Runs}
 use Rattle.planning.specs.Pass.{Route, passSteps, performed, phases, total}
-use Rattle.planning.specs.Running.{canRun}
+use Rattle.planning.specs.Running.{Runs, canRun}
 use Rattle.planning.specs.Stored.{routeOf}
 use Rattle.planning.specs.declared.Plan.{Plan}
 

@@ -5,18 +5,13 @@ use native.Mathlib.Nat.{div-lt-iff-lt-mul, mod-lt, mul-assoc, mul-comm, mul-div-
 use native.Mathlib.Omega.{arith}
 use lib.Arith.{digits-div, digits-lt, digits-mod}
 use lib.Pow.{pow-add, pow-pos}
-use Rattle.bank.proofs.Limits.{Allowed}
-use Rattle.bank.specs.Geometry.{block, drives, loadAt, memory, records, stripeAt, stripes}
+use Rattle.bank.specs.Geometry.{Allowed, block, drives, loadAt, loads, memory, records, stripeAt, stripes}
 use Rattle.bank.specs.declared.Geometry.{Geometry}
 use Rattle.moving.specs.Number.{loadOf, passOf, phaseOf, turnOf}
 use Rattle.planning.specs.Pass.{Route, loadSteps, passSteps, phases}
 
 pub pow-split : (i j : ℕ) → i ≤ j → 2 ^ j ≡ 2 ^ (j - i) * 2 ^ i
 pow-split i j h = ap (λ (k : ℕ). 2 ^ k) (omega arith) ∙ pow-add 2 (j - i) i
-
--- the memoryloads of an area, N/M
-abbrev pub loads : Geometry → ℕ
-loads g = 2 ^ (g .n - g .m)
 
 module _ (g : Geometry) (ok : Allowed g) where
   -- B·D, the records of a stripe

@@ -9,12 +9,11 @@ use borrow.Author.Tests.{le-ltb, lt-ltb}
 use lib.Arith.{digits-div, digits-lt, digits-mod}
 use lib.Dec.{ltb}
 use lib.ListN.{getD, length}
-use Rattle.bank.proofs.Limits.{Allowed}
-use Rattle.bank.specs.Geometry.{memory, records, stripes}
+use Rattle.bank.specs.Geometry.{Allowed, loads, memory, records, stripes}
 use Rattle.bank.specs.declared.Geometry.{Geometry}
 use Rattle.moving.proofs.Bytes.{byte-in, getD-chosen, length-copied}
 use Rattle.moving.proofs.Load.{During, copied-none, read-step, when, write-step}
-use Rattle.moving.proofs.Numbers.{load-at, load-is, load-lt, loads, pass-at, pass-is, stripe-lt, phase-at, turn-at}
+use Rattle.moving.proofs.Numbers.{load-at, load-is, load-lt, pass-at, pass-is, stripe-lt, phase-at, turn-at}
 use Rattle.moving.specs.Bytes.{copied}
 use Rattle.moving.specs.Number.{loadOf, passOf, phaseOf, turnOf}
 use Rattle.moving.specs.Step.{Buffers, areaBy, byPhase, even, move, moves, readMove, sourceOf, writeMove}

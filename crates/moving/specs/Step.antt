@@ -1,4 +1,5 @@
 -- What does a step do to the two areas and the memory? Assumes nothing.
+use mathlib.Core.Path.{_≡_}
 use mathlib.Core.Bool.{Bool, true, false, not, _&&_}
 use mathlib.Core.List.{List}
 use Prim.Native.Nat.{ℕ, zero, suc, _+_, _*_, _%_}
@@ -20,6 +21,12 @@ pub record Buffers : Type 0 where
 -- each area is N·R bytes, and memory is M·R
 unfoldable pub fits : Geometry → Buffers → Bool
 fits g v = eqb (length (v .area0)) (records g * g .r) && eqb (length (v .area1)) (records g * g .r) && eqb (length (v .memory)) (memory g * g .r)
+
+-- the three lengths, one by one
+pub record Fits (g : Geometry) (v : Buffers) : Type 0 where
+  pub area0-long : length (v .area0) ≡ records g * g .r
+  pub area1-long : length (v .area1) ≡ records g * g .r
+  pub memory-long : length (v .memory) ≡ memory g * g .r
 
 -- pass p reads area p mod 2 and writes the other
 abbrev pub even : ℕ → Bool

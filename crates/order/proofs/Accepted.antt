@@ -9,8 +9,8 @@ use lib.Dec.{eqb, leb}
 use lib.ListN.{getD, length, take, length-take}
 use lib.Seq.{getD-take}
 use Rattle.bank.specs.Limits.{ROWS}
-use Rattle.bank.specs.Geometry.{inLimits, records}
-use Rattle.bank.proofs.Limits.{Allowed, limits→allowed}
+use Rattle.bank.specs.Geometry.{Allowed, inLimits, records}
+use Rattle.bank.proofs.Limits.{limits→allowed}
 use Rattle.algebra.specs.Search.{some}
 use Rattle.algebra.specs.Matrix.{singular}
 use Rattle.algebra.proofs.Search.{none-elim, or-l, or-r}

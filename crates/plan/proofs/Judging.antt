@@ -12,9 +12,9 @@ use lib.Pow.{pow-add, pow-mono, pow-pos}
 use lib.Seq.{take-take}
 use Rattle.algebra.proofs.Search.{and-both, and-l, and-r, some-ext}
 use Rattle.bank.specs.Limits.{ROWS, PASSES}
-use Rattle.bank.specs.Geometry.{inLimits, records}
+use Rattle.bank.specs.Geometry.{Allowed, inLimits, records}
 use Rattle.bank.specs.declared.Geometry.{Geometry}
-use Rattle.bank.proofs.Limits.{Allowed, limits→allowed}
+use Rattle.bank.proofs.Limits.{limits→allowed}
 use Rattle.algebra.specs.Search.{some}
 use Rattle.algebra.specs.Matrix.{singular, spills}
 use Rattle.planning.specs.Pass.{Pass, passAt, passSteps, phases, total}

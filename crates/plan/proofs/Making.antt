@@ -7,8 +7,8 @@ use native.Mathlib.Nat.{sub-zero}
 use native.Mathlib.Omega.{arith}
 use lib.ListN.{drop, length, length-append, length-map, replicate, take}
 use lib.Seq.{ext-getD, length-take-le}
-use Rattle.bank.proofs.Limits.{Allowed, limits→allowed}
-use Rattle.bank.specs.Geometry.{inLimits}
+use Rattle.bank.proofs.Limits.{limits→allowed}
+use Rattle.bank.specs.Geometry.{Allowed, inLimits}
 use Rattle.bank.specs.Limits.{PASSES, ROWS}
 use Rattle.bank.specs.declared.Geometry.{Geometry}
 use Rattle.algebra.specs.Matrix.{columns, identity, product, singular}
@@ -19,15 +19,15 @@ use Rattle.algebra.proofs.Lists.{All}
 use Rattle.algebra.proofs.Questions.{columns-whole}
 use Rattle.algebra.proofs.Rank.{rank-le}
 use Rattle.planning.specs.Columns.{after, phi}
-use Rattle.planning.specs.Making.{busy, erases, firstAfter, operations, passMatrices, passesFor, rounds, swaps}
+use Rattle.planning.specs.Making.{RoundReady, busy, erases, firstAfter, operations, passMatrices, passesFor, rounds, swaps}
 use Rattle.planning.specs.Pass.{Pass, complemented}
 use Rattle.planning.specs.Stored.{planFor, planOf}
 use Rattle.planning.specs.declared.Plan.{Plan}
 use Rattle.planning.proofs.Bridges.{column-after}
 use Rattle.planning.proofs.Made.{complemented-length, made-few}
-use Rattle.planning.proofs.Round.{Sound, next-nonzero, next-sound, nonzero}
+use Rattle.planning.proofs.Round.{next-nonzero, next-ready, nonzero}
 use Rattle.planning.proofs.Rounds.{Good, busy-some, complemented-more, round-good, rounds-go, rounds-good, rounds-length, rounds-stop}
-use Rattle.planning.proofs.Run.{first-length, moved-nonzero, moved-sound}
+use Rattle.planning.proofs.Run.{first-length, moved-nonzero, moved-ready}
 use Rattle.planning.proofs.Step2.{after-length, operations-length, undone-operations}
 use Rattle.planner.proofs.Products.{front-after, take-front}
 use Rattle.planner.proofs.Steps.{held-take}
@@ -70,7 +70,7 @@ pub record Making (g : Geometry) (n b m c : ℕ) (all : List Pass) (plan : Plan)
   pub counted : length done ≡ p
   pub stored : plan ≡ planOf (record { geometry = g; passes = done })
   pub comes : done ++ ahead (m - p) n b m cols q c ≡ all
-  pub sound : Sound n m cols
+  pub ready : RoundReady n m cols
   pub enough : nonzero m cols ≤ m - p
 
 module _ {g : Geometry} {n b m c : ℕ} {all : List Pass} {plan : Plan} {cols q : List ℕ} {p : ℕ} (k : Making g n b m c all plan cols q p) where
@@ -81,7 +81,7 @@ module _ {g : Geometry} {n b m c : ℕ} {all : List Pass} {plan : Plan} {cols q 
   high = omega (arith, k .within)
 
   rounds-some : 0 < length (rounds (m - p) n b m cols)
-  rounds-some = omega (arith, rounds-length n b m low high (k .below) (m - p) cols (k .sound) (k .enough))
+  rounds-some = omega (arith, rounds-length n b m low high (k .below) (m - p) cols (k .ready) (k .enough))
 
   -- there is room for one more
   pub make-room : p < PASSES
@@ -117,13 +117,13 @@ module _ {g : Geometry} {n b m c : ℕ} {all : List Pass} {plan : Plan} {cols q 
     next = after (after cols (swaps n b m cols)) (erases n b m (after cols (swaps n b m cols)))
 
     made-length : length made ≡ n
-    made-length = round-good n b m low high cols (k .sound) .long
+    made-length = round-good n b m low high cols (k .ready) .long
 
-    still : Sound n m next
-    still = next-sound n b m low high cols (k .sound)
+    still : RoundReady n m next
+    still = next-ready n b m low high cols (k .ready)
 
     fewer : nonzero m next ≤ m - (p + 1)
-    fewer = omega (arith, next-nonzero n b m low high cols (k .sound), busy-some m cols more, k .enough)
+    fewer = omega (arith, next-nonzero n b m low high cols (k .ready), busy-some m cols more, k .enough)
 
     comes-turn : record { rows = columns n (after made q); complement = 0 } ∷ ahead (m - (p + 1)) n b m next (identity n) c ≡ ahead (m - p) n b m cols q c
     unfolding firstAfter
@@ -159,7 +159,7 @@ module _ {g : Geometry} {n b m c : ℕ} {all : List Pass} {plan : Plan} {cols q 
           comes =
               ap₂ (λ (l u : List ℕ). (k .done ++ (x ∷ [])) ++ ahead (m - (p + 1)) n b m l u c) left-is unit-is
               ∙ append-assoc (k .done) (x ∷ []) (ahead (m - (p + 1)) n b m next (identity n) c) ∙ ap (λ (l : List Pass). k .done ++ l) comes-turn ∙ k .comes;
-          sound = subst (Sound n m) (sym left-is) still;
+          ready = subst (RoundReady n m) (sym left-is) still;
           enough = subst (λ (l : List ℕ). nonzero m l ≤ m - (p + 1)) (sym left-is) fewer;
         }
 
@@ -198,8 +198,8 @@ module _ (g : Geometry) (array : List ℕ) (c : ℕ) (inside : inLimits g ≡ tr
   rows-length : length rows ≡ g .n
   rows-length = length-take-le (g .n) array (omega (arith, k .n-high))
 
-  moved-is : Sound (g .n) (g .m) moved
-  moved-is = moved-sound (g .n) (g .b) (g .m) (k .block-below) hm rows rows-length regular
+  moved-is : RoundReady (g .n) (g .m) moved
+  moved-is = moved-ready (g .n) (g .b) (g .m) (k .block-below) hm rows rows-length regular
 
   cols-front : take (g .n) cols ≡ moved
   cols-front = take-front (g .n) cols moved (replicate (ROWS - g .n) 0) (moved-is .long) cols-is
@@ -225,7 +225,7 @@ module _ (g : Geometry) (array : List ℕ) (c : ℕ) (inside : inLimits g ≡ tr
     counted = refl;
     stored = e ∙ sym (stored-none g);
     comes = ap (λ (i : ℕ). ahead i (g .n) (g .b) (g .m) (take (g .n) cols) (take (g .n) q) c) (sub-zero (g .m));
-    sound = subst (Sound (g .n) (g .m)) (sym cols-front) moved-is;
+    ready = subst (RoundReady (g .n) (g .m)) (sym cols-front) moved-is;
     enough =
         subst (λ (l : List ℕ). nonzero (g .m) l ≤ g .m - 0) (sym cols-front)
         (omega (arith, moved-nonzero (g .n) (g .b) (g .m) (k .block-below) hm rows rows-length regular, rank-le (phi (g .m) (columns (g .n) rows)) (g .m)));

@@ -21,10 +21,10 @@ use Rattle.algebra.proofs.Linear.{comb-one, listed-units}
 use Rattle.algebra.proofs.Listed.{listed-same, room-set}
 use Rattle.algebra.proofs.Search.{le-or-lt}
 use Rattle.planning.specs.Columns.{adding, delta, phi, zeroColumn}
-use Rattle.planning.specs.Making.{eraser, erases}
+use Rattle.planning.specs.Making.{RoundReady, eraser, erases}
 use Rattle.planning.proofs.Bridges.{eraser-used}
 use Rattle.planning.proofs.Parts.{delta-comb}
-use Rattle.planning.proofs.Round.{Sound, e-high, e-low, e-small, eraser-zero}
+use Rattle.planning.proofs.Round.{e-high, e-low, e-small, eraser-zero}
 use Rattle.planner.proofs.Places.{phi-column, phi-take}
 
 -- ---- what an elimination uses for zero: nothing
@@ -72,7 +72,7 @@ module _ (n b m : ℕ) (cols : List ℕ) where
         (λ i u v. ap (bitXor (2 ^ i)) (⊎-elim (λ (l : j ≤ i). erased-not j i l ∙ sym (e-high n b m hm cols i (omega arith))) (λ (l : i < j). erased-yes j i l) (le-or-lt j i))))
 
 -- ---- the next column of E
-module _ (room n b m : ℕ) (small : room ≤ 32) (hm : m ≤ n) (hn : n ≤ room) (cols : List ℕ) (sound : Sound n m cols) where
+module _ (room n b m : ℕ) (small : room ≤ 32) (hm : m ≤ n) (hn : n ≤ room) (cols : List ℕ) (sound : RoundReady n m cols) where
   delta-lt : (i : ℕ) → getD (delta m cols) i 0 < 2 ^ (n - m)
   delta-lt i = subst (λ (k : ℕ). k < 2 ^ (n - m)) (sym (sym (comb-one (delta m cols) i) ∙ delta-comb m cols (2 ^ i))) (shr-below n m (comb cols (2 ^ i * 2 ^ m)) hm (sound .small (2 ^ i * 2 ^ m)))
 

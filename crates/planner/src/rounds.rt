@@ -6,8 +6,7 @@ ghost use lib.ListN.{take, replicate};
 ghost use Rattle.bank.specs.Limits.{ROWS};
 ghost use Rattle.algebra.specs.Search.{leastFrom};
 ghost use Rattle.planning.specs.Columns.{after, phi, zeroColumn};
-ghost use Rattle.planning.specs.Making.{busy, swaps, erases};
-ghost use Rattle.planning.proofs.Round.{Sound};
+ghost use Rattle.planning.specs.Making.{RoundReady, busy, erases, swaps};
 use crate::columns::lower;
 use bank::ROWS;
 use matrix::echelon::eliminate;
@@ -85,7 +84,7 @@ fn swaps(cols: &[u32; ROWS], n: usize, b: usize, m: usize) -> [u32; ROWS]
 
 // E, for a matrix of n columns that are swapped already. For a zero column the elimination uses nothing.
 fn erases(cols: &[u32; ROWS], n: usize, b: usize, m: usize) -> [u32; ROWS]
-    requires { ⌜ (b < m) × (m < n) × (n ≤ ROWS) × Sound n m (take n (now cols)) ⌝ }
+    requires { ⌜ (b < m) × (m < n) × (n ≤ ROWS) × RoundReady n m (take n (now cols)) ⌝ }
     ensures { λ r. ⌜ r ≡ erases n b m (take n (now (cols .entry))) ++ replicate (ROWS - n) 0 ⌝ }
 {
     let delta = lower(cols, m, n, m);
@@ -102,7 +101,7 @@ fn erases(cols: &[u32; ROWS], n: usize, b: usize, m: usize) -> [u32; ROWS]
 
 // One round of a matrix of n columns.
 pub fn round(cols: &[u32; ROWS], n: usize, b: usize, m: usize) -> Rounded
-    requires { ⌜ (b < m) × (m < n) × (n ≤ ROWS) × Sound n m (take n (now cols)) ⌝ }
+    requires { ⌜ (b < m) × (m < n) × (n ≤ ROWS) × RoundReady n m (take n (now cols)) ⌝ }
     ensures { λ r. ⌜ (r .pass ≡ after (erases n b m (after (take n (now (cols .entry))) (swaps n b m (take n (now (cols .entry)))))) (swaps n b m (take n (now (cols .entry)))) ++ replicate (ROWS - n) 0) × (r .cols ≡ after (after (take n (now (cols .entry))) (swaps n b m (take n (now (cols .entry))))) (erases n b m (after (take n (now (cols .entry))) (swaps n b m (take n (now (cols .entry)))))) ++ replicate (ROWS - n) 0) ⌝ }
 {
     let s = swaps(cols, n, b, m);

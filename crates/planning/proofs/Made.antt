@@ -6,8 +6,8 @@ use Prim.Native.Nat.{_+_, _-_, _<_, _^_, _≤_, suc, zero, zero-le, ℕ}
 use native.Mathlib.Omega.{arith}
 use lib.Pow.{pow-pos}
 use lib.ListN.{getD, length}
-use Rattle.bank.proofs.Limits.{Allowed, limits→allowed}
-use Rattle.bank.specs.Geometry.{inLimits}
+use Rattle.bank.proofs.Limits.{limits→allowed}
+use Rattle.bank.specs.Geometry.{Allowed, inLimits}
 use Rattle.bank.specs.Limits.{PASSES}
 use Rattle.bank.specs.declared.Geometry.{Geometry}
 use Rattle.algebra.specs.Matrix.{columns, rank, singular, spills, target}
@@ -15,12 +15,12 @@ use Rattle.algebra.proofs.Lists.{all-at, at-all}
 use Rattle.planning.proofs.Bound.{passes-bound}
 use Rattle.planning.proofs.Run.{plan-half, plan-length, plan-moves, plan-runs}
 use Rattle.planning.proofs.Running.{runs-back, runs→sound, sound-allowed, sound-dry, sound→can-run, sound→checked}
-use Rattle.planning.proofs.Runs.{MatrixRuns, Runs}
+use Rattle.planning.proofs.Runs.{MatrixRuns}
 use Rattle.planning.proofs.Stored.{route-length}
 use Rattle.planning.specs.Columns.{phi}
 use Rattle.planning.specs.Making.{dividedUp, passMatrices, passesFor}
 use Rattle.planning.specs.Pass.{complemented, passIn, performed}
-use Rattle.planning.specs.Running.{canRun, sound}
+use Rattle.planning.specs.Running.{Runs, canRun, sound}
 use Rattle.planning.specs.Stored.{planFor, routeOf}
 use Rattle.planning.specs.declared.Plan.{Plan}
 

@@ -16,17 +16,17 @@ use Rattle.algebra.specs.Matrix.{columns, marked, rank, singular, target}
 use Rattle.algebra.specs.Vector.{comb}
 use Rattle.planning.proofs.Made.{made-can-run, made-few, made-near, made-performs, made-route, runs-bound}
 use Rattle.planning.proofs.Marks.{Only}
-use Rattle.planning.proofs.Round.{Sound, eraser-one, eraser-right, next-nonzero, next-sound, nonzero, swapped-sound}
+use Rattle.planning.proofs.Round.{eraser-one, eraser-right, next-nonzero, next-ready, nonzero, swapped-ready}
 use Rattle.planning.proofs.Rounds.{Ends, rounds-end}
-use Rattle.planning.proofs.Run.{moved-nonzero, moved-sound, plan-length, plan-moves, plan-none, plan-runs}
+use Rattle.planning.proofs.Run.{moved-nonzero, moved-ready, plan-length, plan-moves, plan-none, plan-runs}
 use Rattle.planning.proofs.Running.{runs-back, runs→sound, sound→runs}
-use Rattle.planning.proofs.Runs.{MatrixRuns, Runs, Taken}
+use Rattle.planning.proofs.Runs.{MatrixRuns, Taken}
 use Rattle.planning.proofs.Step1.{delta-regular, pairing-total}
 use Rattle.planning.proofs.Step2.{moved-zero, summands-one, summands-right, undone-operations}
 use Rattle.planning.specs.Columns.{after, delta, phi, undone, zeroColumn}
-use Rattle.planning.specs.Making.{chosen, dividedUp, eraser, erases, operations, passMatrices, passesFor, rounds, step1, summands, swaps, unmarked}
+use Rattle.planning.specs.Making.{RoundReady, chosen, dividedUp, eraser, erases, operations, passMatrices, passesFor, rounds, step1, summands, swaps, unmarked}
 use Rattle.planning.specs.Pass.{Route, complemented, performed}
-use Rattle.planning.specs.Running.{canRun, sound}
+use Rattle.planning.specs.Running.{Runs, canRun, sound}
 use Rattle.planning.specs.Stored.{planFor, planOf, routeOf}
 use Rattle.planning.specs.declared.Plan.{Plan}
 
@@ -69,11 +69,11 @@ module _ (n b m : ℕ) (rows : List ℕ) (k : Taken n b m rows) where
   φ-rank = moved-nonzero n b m (k .below) hm rows (k .count) (k .regular)
 
   -- step 3: AP is a matrix as the rounds below need it, and where they end φ is zero
-  pub AP-sound : Sound n m (after (columns n rows) (operations n m (columns n rows)))
-  AP-sound = moved-sound n b m (k .below) hm rows (k .count) (k .regular)
+  pub AP-ready : RoundReady n m (after (columns n rows) (operations n m (columns n rows)))
+  AP-ready = moved-ready n b m (k .below) hm rows (k .count) (k .regular)
 
   pub F-dry : (r : ℕ) → rank (phi m (columns n rows)) m ≤ r → Ends (λ p. nonzero m p ≡ 0) (rounds r n b m (after (columns n rows) (operations n m (columns n rows))))
-  F-dry r h = rounds-end n b m (k .below) hm r (after (columns n rows) (operations n m (columns n rows))) AP-sound (omega (arith, φ-rank))
+  F-dry r h = rounds-end n b m (k .below) hm r (after (columns n rows) (operations n m (columns n rows))) AP-ready (omega (arith, φ-rank))
 
   -- step 4: the number of passes
   pub passes-number : length (passMatrices n b m rows) ≡ dividedUp (rank (phi m (columns n rows)) m) (m - b) + 1
@@ -92,13 +92,13 @@ module _ (n b m : ℕ) (rows : List ℕ) (k : Taken n b m rows) where
   passes-move = plan-moves n b m (k .below) hm rows (k .count) (k .regular)
 
 -- ---- one round, of any matrix that is as AP is
-module _ (n b m : ℕ) (hb : b ≤ m) (hm : m ≤ n) (cols : List ℕ) (k : Sound n m cols) where
+module _ (n b m : ℕ) (hb : b ≤ m) (hm : m ≤ n) (cols : List ℕ) (k : RoundReady n m cols) where
   -- S and E leave such a matrix
-  pub swap-keeps : Sound n m (after cols (swaps n b m cols))
-  swap-keeps = swapped-sound n b m hb hm cols k
+  pub swap-keeps : RoundReady n m (after cols (swaps n b m cols))
+  swap-keeps = swapped-ready n b m hb hm cols k
 
-  pub round-keeps : Sound n m (after (after cols (swaps n b m cols)) (erases n b m (after cols (swaps n b m cols))))
-  round-keeps = next-sound n b m hb hm cols k
+  pub round-keeps : RoundReady n m (after (after cols (swaps n b m cols)) (erases n b m (after cols (swaps n b m cols))))
+  round-keeps = next-ready n b m hb hm cols k
 
   -- and together make m - b nonzero columns of φ zero, or all that are left
   pub round-clears : nonzero m (after (after cols (swaps n b m cols)) (erases n b m (after cols (swaps n b m cols)))) ≡ nonzero m cols - (m - b)

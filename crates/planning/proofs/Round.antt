@@ -24,7 +24,7 @@ use Rattle.planning.proofs.Acts.{adding-at, adding-is, adding-lt, addin
 use Rattle.planning.proofs.Parts.{delta-comb, phi-at}
 use Rattle.planning.proofs.Step2.{after-length}
 use Rattle.planning.specs.Columns.{adding, after, delta, phi, placing, zeroColumn}
-use Rattle.planning.specs.Making.{eraser, erases, partner, swaps}
+use Rattle.planning.specs.Making.{RoundReady, eraser, erases, partner, swaps}
 
 pub shl-linear : (m : ℕ) → Linear (λ t. t * 2 ^ m)
 shl-linear m = record {
@@ -278,18 +278,13 @@ swap-count nz b (x ∷ xs) (y ∷ ys) ax ay lx ly tx ty =
     (ap nz (partner-out xs ys x (all-mono (λ z. x < z) (λ z. x ≡ z → ⊥) (λ z l r. omega (arith, l, r)) xs (ax .0)) (all-mono (λ z. b ≤ z) (λ z. x ≡ z → ⊥) (λ z l r. omega (arith, l, r, lx .0)) ys (ly .1))) ∙ tx .0) in
     omega (arith, ih, one)
 
--- ---- what a round needs of the matrix, and keeps
-pub record Sound (n m : ℕ) (cols : List ℕ) : Type 0 where
-  pub long : length cols ≡ n
-  pub small : (y : ℕ) → comb cols y < 2 ^ n
-  pub regular : (z : ℕ) → z < 2 ^ n → comb cols z ≡ 0 → z ≡ 0
-  pub trailing : (t : ℕ) → t < 2 ^ (n - m) → comb (delta m cols) t ≡ 0 → t ≡ 0
+-- ---- what a round keeps
 
 -- how many columns of φ are not zero
 unfoldable pub nonzero : ℕ → List ℕ → ℕ
 nonzero m cols = length (which (λ j. not (zeroColumn (phi m cols) j)) m 0)
 
-module _ (n b m : ℕ) (hb : b ≤ m) (hm : m ≤ n) (cols : List ℕ) (k : Sound n m cols) where
+module _ (n b m : ℕ) (hb : b ≤ m) (hm : m ≤ n) (cols : List ℕ) (k : RoundReady n m cols) where
   abbrev s : List ℕ
   s = swaps n b m cols
 
@@ -313,8 +308,8 @@ module _ (n b m : ℕ) (hb : b ≤ m) (hm : m ≤ n) (cols : List ℕ) (k : Soun
   swapped-trailing t h q = k .trailing t h (sym (swapped-delta t h) ∙ q)
 
   -- S keeps what a round needs
-  pub swapped-sound : Sound n m swapped
-  swapped-sound = record {
+  pub swapped-ready : RoundReady n m swapped
+  swapped-ready = record {
     long = after-length cols s ∙ unfold swaps placing in listed-length (λ j. 2 ^ partner (xs n b m hb hm cols) (ys n b m hb hm cols) j) n 0;
     small = swapped-small;
     regular = λ z h q. sym (S-twice n b m hb hm cols z h) ∙ ap (comb s) (k .regular (comb s z) (S-lt n b m hb hm cols z) (sym (comb-after cols s z) ∙ q)) ∙ comb-zero s;
@@ -332,9 +327,9 @@ module _ (n b m : ℕ) (hb : b ≤ m) (hm : m ≤ n) (cols : List ℕ) (k : Soun
   pub next-is : (x : ℕ) → comb next x ≡ comb cols (comb s (comb e x))
   next-is x = comb-after swapped e x ∙ comb-after cols s (comb e x)
 
-  pub next-sound : Sound n m next
+  pub next-ready : RoundReady n m next
   unfolding erases
-  next-sound = record {
+  next-ready = record {
     long = after-length swapped e ∙ unfold adding in listed-length (λ j. bitXor (2 ^ j) (eraser n b m swapped j)) n 0;
     small = λ y. subst (λ (u : ℕ). u < 2 ^ n) (sym (next-is y)) (k .small (comb s (comb e y)));
     regular = λ z h q.

@@ -22,10 +22,10 @@ use Rattle.algebra.specs.Search.{which}
 use Rattle.algebra.specs.Vector.{comb}
 use Rattle.planning.proofs.Acts.{comb-after}
 use Rattle.planning.proofs.Parts.{phi-comb}
-use Rattle.planning.proofs.Round.{E-dry, S-low, S-lt, S-twice, Sound, erases-lt, erases-twice, next-is, next-nonzero, next-sound, nonzero}
+use Rattle.planning.proofs.Round.{E-dry, S-low, S-lt, S-twice, erases-lt, erases-twice, next-is, next-nonzero, next-ready, nonzero}
 use Rattle.planning.proofs.Step2.{after-length}
 use Rattle.planning.specs.Columns.{after, phi, placing, zeroColumn}
-use Rattle.planning.specs.Making.{busy, dividedUp, erases, partner, rounds, swaps}
+use Rattle.planning.specs.Making.{RoundReady, busy, dividedUp, erases, partner, rounds, swaps}
 use Rattle.planning.specs.Pass.{Pass, complemented, performed}
 
 -- ---- whether φ is zero
@@ -112,7 +112,7 @@ pub record Good (n b m : ℕ) (p : List ℕ) : Type 0 where
 
 module _ (n b m : ℕ) (hb : b ≤ m) (hm : m ≤ n) where
   -- E S
-  pub round-good : (cols : List ℕ) → Sound n m cols → Good n b m (after (erases n b m (after cols (swaps n b m cols))) (swaps n b m cols))
+  pub round-good : (cols : List ℕ) → RoundReady n m cols → Good n b m (after (erases n b m (after cols (swaps n b m cols))) (swaps n b m cols))
   unfolding erases
   round-good cols k = record {
     long = after-length e s ∙ unfold swaps placing in listed-length (λ j. 2 ^ partner (which (λ j. not (zeroColumn (phi m cols) j)) b 0) (which (zeroColumn (phi m cols)) (m - b) b) j) n 0;
@@ -131,7 +131,7 @@ module _ (n b m : ℕ) (hb : b ≤ m) (hm : m ≤ n) where
       e = erases n b m (after cols (swaps n b m cols))
 
   -- F: where φ is zero nothing reaches the lower part
-  pub last-good : (cols : List ℕ) → Sound n m cols → nonzero m cols ≡ 0 → Good n b m cols
+  pub last-good : (cols : List ℕ) → RoundReady n m cols → nonzero m cols ≡ 0 → Good n b m cols
   last-good cols k e = record {
     long = k .long;
     small = k .small;
@@ -152,19 +152,19 @@ module _ (n b m : ℕ) (hb : b ≤ m) (hm : m ≤ n) where
   nx cols = after (after cols (swaps n b m cols)) (erases n b m (after cols (swaps n b m cols)))
 
   -- every pass can run
-  pub rounds-good : b < m → (g : ℕ) (cols : List ℕ) → Sound n m cols → nonzero m cols ≤ g → All (Good n b m) (rounds g n b m cols)
+  pub rounds-good : b < m → (g : ℕ) (cols : List ℕ) → RoundReady n m cols → nonzero m cols ≤ g → All (Good n b m) (rounds g n b m cols)
   rounds-good hlt zero cols k h = subst (All (Good n b m)) (sym (rounds-stop zero n b m cols (idle m cols (omega arith)))) (last-good cols k (omega arith), tt)
-  rounds-good hlt (suc g) cols k h = go (busy m cols) refl (λ q. rounds-good hlt g (nx cols) (next-sound n b m hb hm cols k) (omega (arith, next-nonzero n b m hb hm cols k, q)))
+  rounds-good hlt (suc g) cols k h = go (busy m cols) refl (λ q. rounds-good hlt g (nx cols) (next-ready n b m hb hm cols k) (omega (arith, next-nonzero n b m hb hm cols k, q)))
     where
       go : (x : Bool) → busy m cols ≡ x → (0 < nonzero m cols → All (Good n b m) (rounds g n b m (nx cols))) → All (Good n b m) (rounds (suc g) n b m cols)
       go false e ih = subst (All (Good n b m)) (sym (rounds-stop (suc g) n b m cols e)) (last-good cols k (idle-none m cols e), tt)
       go true e ih = subst (All (Good n b m)) (sym (rounds-go g n b m cols e)) (round-good cols k, ih (busy-some m cols e))
 
   -- their number
-  pub rounds-length : b < m → (g : ℕ) (cols : List ℕ) → Sound n m cols → nonzero m cols ≤ g → length (rounds g n b m cols) ≡ suc (dividedUp (nonzero m cols) (m - b))
+  pub rounds-length : b < m → (g : ℕ) (cols : List ℕ) → RoundReady n m cols → nonzero m cols ≤ g → length (rounds g n b m cols) ≡ suc (dividedUp (nonzero m cols) (m - b))
   rounds-length hlt zero cols k h =
       ap length (rounds-stop zero n b m cols (idle m cols (omega arith))) ∙ ap suc (sym (ap (λ (u : ℕ). dividedUp u (m - b)) (omega arith) ∙ up-zero (m - b) (omega arith)))
-  rounds-length hlt (suc g) cols k h = go (busy m cols) refl (λ q. rounds-length hlt g (nx cols) (next-sound n b m hb hm cols k) (omega (arith, next-nonzero n b m hb hm cols k, q)))
+  rounds-length hlt (suc g) cols k h = go (busy m cols) refl (λ q. rounds-length hlt g (nx cols) (next-ready n b m hb hm cols k) (omega (arith, next-nonzero n b m hb hm cols k, q)))
     where
       go : (x : Bool) → busy m cols ≡ x → (0 < nonzero m cols → length (rounds g n b m (nx cols)) ≡ suc (dividedUp (nonzero m (nx cols)) (m - b))) → length (rounds (suc g) n b m cols) ≡ suc (dividedUp (nonzero m cols) (m - b))
       go false e ih = ap length (rounds-stop (suc g) n b m cols e) ∙ ap suc (sym (ap (λ (u : ℕ). dividedUp u (m - b)) (idle-none m cols e) ∙ up-zero (m - b) (omega arith)))
@@ -187,10 +187,10 @@ module _ (n b m : ℕ) (hb : b ≤ m) (hm : m ≤ n) where
       go true e = omega (arith, ap (λ (l : List (List ℕ)). length (map (columns n) l)) (rounds-go g n b m cols e))
       go false e = omega (arith, ap (λ (l : List (List ℕ)). length (map (columns n) l)) (rounds-stop (suc g) n b m cols e))
 
-  pub rounds-move : (g : ℕ) (cols : List ℕ) → Sound n m cols → (c x : ℕ) → x < 2 ^ n → performed (complemented (map (columns n) (rounds g n b m cols)) c) x ≡ bitXor (comb cols x) c
+  pub rounds-move : (g : ℕ) (cols : List ℕ) → RoundReady n m cols → (c x : ℕ) → x < 2 ^ n → performed (complemented (map (columns n) (rounds g n b m cols)) c) x ≡ bitXor (comb cols x) c
   unfolding rounds performed complemented
   rounds-move zero cols k c x h = pass-moves cols c x (k .small x)
-  rounds-move (suc g) cols k c x h = go (busy m cols) refl (λ y l. rounds-move g (nx cols) (next-sound n b m hb hm cols k) c y l)
+  rounds-move (suc g) cols k c x h = go (busy m cols) refl (λ y l. rounds-move g (nx cols) (next-ready n b m hb hm cols k) c y l)
     where
       s : List ℕ
       s = swaps n b m cols
@@ -235,13 +235,13 @@ module _ (n b m : ℕ) (hb : b < m) (hm : m ≤ n) where
   abbrev next : List ℕ → List ℕ
   next cols = after (after cols (swaps n b m cols)) (erases n b m (after cols (swaps n b m cols)))
 
-  fewer : (g : ℕ) (cols : List ℕ) → Sound n m cols → nonzero m cols ≤ suc g → busy m cols ≡ true → nonzero m (next cols) ≤ g
+  fewer : (g : ℕ) (cols : List ℕ) → RoundReady n m cols → nonzero m cols ≤ suc g → busy m cols ≡ true → nonzero m (next cols) ≤ g
   fewer g cols k h e = omega (arith, next-nonzero n b m (omega arith) hm cols k, busy-some m cols e)
 
   -- while φ has nonzero columns: at the end it has none
-  pub rounds-end : (g : ℕ) (cols : List ℕ) → Sound n m cols → nonzero m cols ≤ g → Ends (λ p. nonzero m p ≡ 0) (rounds g n b m cols)
+  pub rounds-end : (g : ℕ) (cols : List ℕ) → RoundReady n m cols → nonzero m cols ≤ g → Ends (λ p. nonzero m p ≡ 0) (rounds g n b m cols)
   rounds-end zero cols k h = subst (Ends (λ p. nonzero m p ≡ 0)) (sym (rounds-stop zero n b m cols (idle m cols (omega arith)))) (omega arith)
-  rounds-end (suc g) cols k h = go (busy m cols) refl (λ q. rounds-end g (next cols) (next-sound n b m (omega arith) hm cols k) (fewer g cols k h q))
+  rounds-end (suc g) cols k h = go (busy m cols) refl (λ q. rounds-end g (next cols) (next-ready n b m (omega arith) hm cols k) (fewer g cols k h q))
     where
       go : (x : Bool) → busy m cols ≡ x → (busy m cols ≡ true → Ends (λ p. nonzero m p ≡ 0) (rounds g n b m (next cols))) → Ends (λ p. nonzero m p ≡ 0) (rounds (suc g) n b m cols)
       go false e ih = subst (Ends (λ p. nonzero m p ≡ 0)) (sym (rounds-stop (suc g) n b m cols e)) (idle-none m cols e)

@@ -23,13 +23,13 @@ use Rattle.planning.proofs.Acts.{comb-after}
 use Rattle.planning.proofs.Dimension.{rank-which, span-le, spread, spread-inj, spread-lt, spread-only}
 use Rattle.planning.proofs.Marks.{marks-one}
 use Rattle.planning.proofs.Parts.{phi-comb}
-use Rattle.planning.proofs.Round.{Sound, nonzero}
+use Rattle.planning.proofs.Round.{nonzero}
 use Rattle.planning.proofs.Rounds.{Good, after-good, idle, pass-moves, rounds-good, rounds-length, rounds-move, rounds-stop, up-le}
 use Rattle.planning.proofs.Runs.{MatrixRuns}
 use Rattle.planning.proofs.Step1.{delta-regular}
 use Rattle.planning.proofs.Step2.{after-length, delta-moved, moved-rank, operations-length, operations-low, operations-lt, operations-twice, undone-operations}
 use Rattle.planning.specs.Columns.{after, phi, undone}
-use Rattle.planning.specs.Making.{dividedUp, firstAfter, operations, passMatrices, rounds}
+use Rattle.planning.specs.Making.{RoundReady, dividedUp, firstAfter, operations, passMatrices, rounds}
 use Rattle.planning.specs.Pass.{complemented, performed}
 
 -- a good pass can run
@@ -77,8 +77,8 @@ module _ (n b m : ℕ) (hb : b < m) (hm : m ≤ n) (rows : List ℕ) (hr : lengt
   P-regular x h e = sym (operations-twice n m hm cols x h) ∙ ap (comb P) e ∙ comb-zero P
 
   -- A P, as the rounds need it
-  pub moved-sound : Sound n m moved
-  moved-sound = record {
+  pub moved-ready : RoundReady n m moved
+  moved-ready = record {
     long = after-length cols P ∙ operations-length n m hm cols;
     small = λ y. subst (λ (u : ℕ). u < 2 ^ n) (sym (comb-after cols P y)) (cols-small (comb P y));
     regular = λ z h e. P-regular z h (cols-regular (comb P z) (operations-lt n m hm cols z h) (sym (comb-after cols P z) ∙ e));
@@ -93,7 +93,7 @@ module _ (n b m : ℕ) (hb : b < m) (hm : m ≤ n) (rows : List ℕ) (hr : lengt
   enough = omega (arith, moved-nonzero, rank-le (phi m cols) m)
 
   all-good : All (Good n b m) (firstAfter (rounds m n b m moved) (undone n P))
-  all-good = go (rounds m n b m moved) (rounds-good n b m (omega arith) hm hb m moved moved-sound enough)
+  all-good = go (rounds m n b m moved) (rounds-good n b m (omega arith) hm hb m moved moved-ready enough)
     where
       go : (ps : List (List ℕ)) → All (Good n b m) ps → All (Good n b m) (firstAfter ps (undone n P))
       go [] g = unfold firstAfter in tt
@@ -114,15 +114,15 @@ module _ (n b m : ℕ) (hb : b < m) (hm : m ≤ n) (rows : List ℕ) (hr : lengt
   unfolding passMatrices
   plan-length =
       length-map (firstAfter (rounds m n b m moved) (undone n P)) (columns n) ∙ first-length (rounds m n b m moved) (undone n P)
-      ∙ rounds-length n b m (omega arith) hm hb m moved moved-sound enough ∙ ap (λ (u : ℕ). suc (dividedUp u (m - b))) moved-nonzero
+      ∙ rounds-length n b m (omega arith) hm hb m moved moved-ready enough ∙ ap (λ (u : ℕ). suc (dividedUp u (m - b))) moved-nonzero
 
   -- the passes with their complements, performed in order, take every x to Ax xor c
   pub plan-moves : (c x : ℕ) → x < 2 ^ n → performed (complemented (passMatrices n b m rows) c) x ≡ target rows c x
   unfolding passMatrices
   plan-moves c x h =
       ap (λ (q : List ℕ). performed (complemented (map (columns n) (firstAfter (rounds m n b m moved) q)) c) x) (undone-operations n m hm cols)
-      ∙ go (rounds m n b m moved) (omega (arith, rounds-length n b m (omega arith) hm hb m moved moved-sound enough)) (rounds-good n b m (omega arith) hm hb m moved moved-sound enough)
-      ∙ rounds-move n b m (omega arith) hm m moved moved-sound c (comb P x) (operations-lt n m hm cols x h)
+      ∙ go (rounds m n b m moved) (omega (arith, rounds-length n b m (omega arith) hm hb m moved moved-ready enough)) (rounds-good n b m (omega arith) hm hb m moved moved-ready enough)
+      ∙ rounds-move n b m (omega arith) hm m moved moved-ready c (comb P x) (operations-lt n m hm cols x h)
       ∙ ap (λ (u : ℕ). bitXor u c) (comb-after cols P (comb P x) ∙ ap (comb cols) (operations-twice n m hm cols x h) ∙ apply-columns n rows x h) ∙ is-target
     where
       is-target : bitXor (apply rows x) c ≡ target rows c x

@@ -8,17 +8,16 @@ use native.Mathlib.Omega.{arith}
 use lib.Dec.{eqb, leb}
 use lib.ListN.{List·getD-eq-default, getD, length}
 use borrow.Author.Tests.{eq-eqb, le-leb, leb-false, leb-true, lt-leb, not-true}
-use Rattle.bank.proofs.Limits.{Allowed, allowed→limits, limits→allowed}
-use Rattle.bank.specs.Geometry.{inLimits, records}
+use Rattle.bank.proofs.Limits.{allowed→limits, limits→allowed}
+use Rattle.bank.specs.Geometry.{Allowed, inLimits, records}
 use Rattle.bank.specs.Limits.{PASSES, ROWS}
 use Rattle.bank.specs.declared.Geometry.{Geometry}
 use Rattle.algebra.proofs.Search.{and-both, and-l, and-r, le-or-lt, none-elim, none-intro}
 use Rattle.algebra.specs.Matrix.{singular, spills}
 use Rattle.algebra.specs.Search.{some}
-use Rattle.planning.proofs.Runs.{Runs}
 use Rattle.planning.proofs.Stored.{route-at, route-back, route-length, stored-complement, stored-place, stored-row, taken-at, taken-length}
 use Rattle.planning.specs.Pass.{Pass, Route, passAt, passIn, total}
-use Rattle.planning.specs.Running.{canRun, countInLimits, singularPass, sound, spare, spareComplement, spareRow, spillingPass, strayComplement, strayRow}
+use Rattle.planning.specs.Running.{Runs, canRun, countInLimits, singularPass, sound, spare, spareComplement, spareRow, spillingPass, strayComplement, strayRow}
 use Rattle.planning.specs.Stored.{planOf, routeOf, storedComplements, storedPass, storedRows}
 use Rattle.planning.specs.declared.Plan.{Plan}
 

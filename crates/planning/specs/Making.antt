@@ -1,10 +1,11 @@
 -- Which passes has the plan for a matrix? "The plan, without choices", step by step. Assumes nothing.
+use mathlib.Core.Path.{_≡_}
 use mathlib.Core.Bool.{Bool, true, false, not, _&&_}
 use mathlib.Core.List.{List, [], _∷_, map}
-use Prim.Native.Nat.{ℕ, zero, suc, _+_, _-_, _*_, _/_, _^_}
+use Prim.Native.Nat.{ℕ, zero, suc, _+_, _-_, _*_, _/_, _^_, _<_}
 use lib.Bits.{bitXor}
 use lib.Dec.{eqb, ltb, leb}
-use lib.ListN.{getD}
+use lib.ListN.{getD, length}
 use Rattle.bank.specs.declared.Geometry.{Geometry}
 use Rattle.algebra.specs.Search.{firstOf, some, which}
 use Rattle.algebra.specs.Vector.{comb}
@@ -91,6 +92,13 @@ rounds (suc k) n b m cols =
           let e = erases n b m (after cols s) in
           after e s ∷ rounds k n b m (after (after cols s) e)
     ]
+
+-- what a round needs of the matrix: n columns below 2 ^ n of which no nonzero set adds up to zero, in δ neither
+pub record RoundReady (n m : ℕ) (cols : List ℕ) : Type 0 where
+  pub long : length cols ≡ n
+  pub small : (y : ℕ) → comb cols y < 2 ^ n
+  pub regular : (z : ℕ) → z < 2 ^ n → comb cols z ≡ 0 → z ≡ 0
+  pub trailing : (t : ℕ) → t < 2 ^ (n - m) → comb (delta m cols) t ≡ 0 → t ≡ 0
 
 -- ---- 4. The passes: E1 S1 P⁻¹, then E2 S2 and so on, then F
 

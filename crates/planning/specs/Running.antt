@@ -1,13 +1,15 @@
 -- When can a plan run, whoever made it? Number 7, condition by condition. Assumes nothing.
-use mathlib.Core.Bool.{Bool, not, _&&_, _||_}
-use Prim.Native.Nat.{ℕ, _+_, _*_, _/_, _%_}
+use mathlib.Core.Path.{_≡_}
+use mathlib.Core.Bool.{Bool, false, not, _&&_, _||_}
+use Prim.Native.Nat.{ℕ, _+_, _*_, _/_, _%_, _<_, _≤_}
 use lib.Dec.{eqb, leb}
-use lib.ListN.{getD}
+use lib.ListN.{getD, length}
 use Rattle.bank.specs.Limits.{ROWS, PASSES}
-use Rattle.bank.specs.Geometry.{inLimits, records}
+use Rattle.bank.specs.declared.Geometry.{Geometry}
+use Rattle.bank.specs.Geometry.{Allowed, inLimits, records}
 use Rattle.algebra.specs.Search.{some}
 use Rattle.algebra.specs.Matrix.{singular, spills}
-use Rattle.planning.specs.Pass.{passAt, total}
+use Rattle.planning.specs.Pass.{Pass, Route, passAt, total}
 use Rattle.planning.specs.Stored.{routeOf}
 use Rattle.planning.specs.declared.Plan.{Plan}
 
@@ -52,3 +54,20 @@ sound plan =
 -- and the state's next step isn't above the total
 unfoldable pub canRun : Plan → ℕ → Bool
 canRun plan next = sound plan && leb next (total (routeOf plan))
+
+-- ---- what a plan that can run gives, one by one
+
+-- a pass that can run in a geometry
+pub record PassRuns (g : Geometry) (pass : Pass) : Type 0 where
+  pub rows-all : length (pass .rows) ≡ g .n
+  pub rows-within : (i : ℕ) → i < g .n → getD (pass .rows) i 0 < records g
+  pub complement-within : pass .complement < records g
+  pub regular : singular (g .n) (pass .rows) ≡ false
+  pub dry : spills (g .b) (g .m) (pass .rows) ≡ false
+
+-- a route that can run
+pub record Runs (route : Route) : Type 0 where
+  pub allowed : Allowed (route .geometry)
+  pub some-pass : 1 ≤ length (route .passes)
+  pub few-passes : length (route .passes) ≤ PASSES
+  pub each-runs : (p : ℕ) → p < length (route .passes) → PassRuns (route .geometry) (passAt route p)

@@ -4,7 +4,7 @@ use Prim.Native.Nat.{ℕ, _+_, _-_, _/_, _%_, _<_, _≤_, zero-le}
 use native.Mathlib.Nat.{mod-lt}
 use native.Mathlib.Omega.{arith}
 use lib.ListN.{length}
-use Rattle.moving.proofs.Fits.{Fits}
+use Rattle.moving.specs.Step.{Fits}
 use Rattle.moving.specs.Call.{movesFrom}
 use Rattle.planning.specs.Pass.{passSteps, total}
 use Rattle.planning.specs.Stored.{routeOf}

@@ -7,8 +7,8 @@ use lib.ListN.{replicate, take}
 use borrow.Author.Needs.{needs}
 use Rattle.bank.specs.Limits.{ROWS}
 use Rattle.planning.specs.Columns.{after}
-use Rattle.planning.specs.Making.{erases, swaps}
-use Rattle.planning.proofs.Round.{Sound, swapped-sound}
+use Rattle.planning.specs.Making.{RoundReady, erases, swaps}
+use Rattle.planning.proofs.Round.{swapped-ready}
 use Rattle.planner.proofs.Products.{erases-front, front-after, swapped-front, swaps-front}
 use Rattle.planner.proofs.rounds.round.Statement.{statement}
 use Rattle.planner.proofs.rounds.round.Tie as tie
@@ -28,7 +28,7 @@ erases-requires c κs =
     let S = c .before .before .before .swaps in
     let w = c .before .product in
     let front = swapped-front (a .n) (a .b) (a .m) cols (S .result) (w .result) rest (swaps-front (a .n) (a .b) (a .m) cols (S .result) (w .result) rest (S .ensures)) (w .ensures) in
-    (search needs, search needs, search needs, subst (λ (l : List ℕ). Sound (a .n) (a .m) l) (sym front) (swapped-sound (a .n) (a .b) (a .m) (omega arith) (omega arith) cols (s .pre .3)))
+    (search needs, search needs, search needs, subst (λ (l : List ℕ). RoundReady (a .n) (a .m) l) (sym front) (swapped-ready (a .n) (a .b) (a .m) (omega arith) (omega arith) cols (s .pre .3)))
 
 product-requires-2 : tie.Need-product-requires-2
 product-requires-2 c κs = search needs
