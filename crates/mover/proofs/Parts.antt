@@ -2,8 +2,8 @@
 use mathlib.Core.Path.{_≡_, refl, sym, ap, _∙_}
 use mathlib.Core.Logic.{⊎-elim}
 use mathlib.Core.List.{List, _++_}
-use Prim.Native.Nat.{ℕ, _+_, _-_, _*_, _≤_, _<_}
-use native.Mathlib.Nat.{le-trans, le-of-eq, suc-mul, mul-le-mul-right, zero-add}
+use Prim.Native.Nat.{ℕ, _+_, _-_, _≤_, _<_}
+use native.Mathlib.Nat.{zero-add}
 use native.Mathlib.Omega.{arith}
 use borrow.Author.Count.{below-more}
 use borrow.Author.Tests.{lt-ltb, le-ltb}
@@ -11,10 +11,6 @@ use lib.ListN.{length, getD, set, take, drop, length-append, length-drop, List·
 use lib.Seq.{getD-set-same, getD-set-other, getD-append-add, length-take-le, getD-take, getD-drop}
 use Rattle.moving.proofs.Bytes.{each-each, each-ext, is-each, length-each, lt-or-ge}
 use Rattle.moving.specs.Bytes.{each, laid, within}
-
--- a turn's share of n turns' k bytes each
-pub share : (t n k : ℕ) → t < n → t * k + k ≤ n * k
-share t n k h = le-trans (le-of-eq (sym (suc-mul t k))) (mul-le-mul-right k h)
 
 -- a turn of the loop that copies
 pub copy-more : (d s : List ℕ) (i : ℕ) → i < length d → ((k : ℕ) → k < i → getD d k 0 ≡ getD s k 0) → (k : ℕ) → k < i + 1 → getD (set d i (getD s i 0)) k 0 ≡ getD s k 0

@@ -15,14 +15,13 @@ use Rattle.algebra.specs.Vector.{comb}
 use Rattle.bank.specs.Geometry.{block, drives, memory, records, stripes}
 use Rattle.bank.specs.declared.Geometry.{Geometry}
 use Rattle.moving.proofs.Bridge.{block-base, code-block, code-drive, code-place, codeBlock, codePlace, place-base, read-laid, stripeBytes, write-as-code}
-use Rattle.moving.proofs.Bytes.{each-ext}
+use Rattle.moving.proofs.Bytes.{each-ext, share}
 use Rattle.moving.proofs.Numbers.{loads, memory-is, pow-split, records-is}
 use Rattle.moving.specs.Blocks.{blockStart, placeIn, targetBlock}
 use Rattle.moving.specs.Bytes.{copied, laid, landed}
 use Rattle.moving.specs.Step.{readFrom, readTakes, writeFrom, writeTakes}
 use Rattle.planning.specs.Pass.{Pass}
 use Rattle.mover.proofs.Columns.{all-columns, part-blocks, part-columns}
-use Rattle.mover.proofs.Parts.{share}
 use Rattle.mover.proofs.Sizes.{memory-fit, records-fit, start-lt}
 use Rattle.mover.specs.Places.{drivePlace, onDrives, placeBy}
 use Rattle.mover.specs.Tables.{ReadReady, WriteReady, passFor}

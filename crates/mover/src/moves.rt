@@ -110,7 +110,8 @@ fn read_step(memory: &mut [u8], area: &[u8], g: Geometry, load: u64, turn: u64)
     let drives = power(g.d);
     let size = power(g.b) * g.r as u64;
     let stripe = turn * drives;
-    let first = Block(load * power(g.m - g.b) + stripe);
+    let blocks = power(g.m - g.b);
+    let first = Block(load * blocks + stripe);
     let at = (stripe * size) as usize;
     read_drives(memory, at, area, first, size as usize, drives as usize);
 }

@@ -4,7 +4,7 @@ use mathlib.Core.Logic.{⊎-elim}
 use mathlib.Core.Bool.{Bool, cond, false, true}
 use mathlib.Core.List.{List, map}
 use Prim.Native.Nat.{_%_, _*_, _+_, _-_, _/_, _<_, _^_, _≤_, suc, ℕ}
-use native.Mathlib.Nat.{add-mul, add-zero, div-add-mod', div-div-eq-div-mul, div-lt-iff-lt-mul, le-div-iff-mul-le, le-of-eq, le-trans, lt-of-lt-of-le, mod-eq-of-lt, mod-lt, mul-assoc, mul-le-mul-right, suc-mul}
+use native.Mathlib.Nat.{add-mul, add-zero, div-add-mod', div-div-eq-div-mul, div-lt-iff-lt-mul, le-div-iff-mul-le, lt-of-lt-of-le, mod-eq-of-lt, mod-lt, mul-assoc, suc-mul}
 use native.Mathlib.Omega.{arith}
 use borrow.Author.Tests.{eq-eqb, eqb-true, le-ltb, lt-ltb, ne-eqb}
 use lib.Arith.{digits-div, digits-lt}
@@ -18,7 +18,7 @@ use Rattle.algebra.specs.Vector.{comb, units}
 use Rattle.bank.proofs.Limits.{Allowed}
 use Rattle.bank.specs.Geometry.{block, blockAt, driveAt, drives, loadAt, memory, records, stripeAt, stripes}
 use Rattle.bank.specs.declared.Geometry.{Geometry}
-use Rattle.moving.proofs.Bytes.{each-ext, lt-or-ge, record-of}
+use Rattle.moving.proofs.Bytes.{each-ext, lt-or-ge, record-of, share}
 use Rattle.moving.proofs.Drives.{block-place, block-test, first-lt, target-block-in}
 use Rattle.moving.proofs.Low.{block-drive, on-load, place-block, place-drive, place-form, place-lt}
 use Rattle.moving.proofs.Numbers.{loads, pow-split, stripe-pos}
@@ -27,10 +27,6 @@ use Rattle.moving.specs.Bytes.{copied, laid, landed, within}
 use Rattle.moving.specs.Step.{readFrom, readTakes, sourceOf, writeFrom, writeTakes}
 use Rattle.planning.proofs.Runs.{PassRuns}
 use Rattle.planning.specs.Pass.{Pass}
-
--- one of n shares of k bytes
-share : (t n k : ℕ) → t < n → t * k + k ≤ n * k
-share t n k h = le-trans (le-of-eq (sym (suc-mul t k))) (mul-le-mul-right k h)
 
 -- ---- a read is one run of bytes
 
