@@ -10,7 +10,8 @@ use borrow.Author.Tests.{eq-eqb, eqb-false, eqb-true, le-ltb, lt-ltb, ne-eqb}
 use lib.Arith.{digits-div, digits-mod}
 use lib.Dec.{eqb, ltb}
 use lib.ListN.{length, getD, take, drop}
-use Rattle.moving.proofs.Bytes.{each-each, each-ext, getD-copied, is-each, length-copied, lt-or-ge}
+use Rattle.algebra.proofs.Search.{le-or-lt}
+use Rattle.moving.proofs.Bytes.{each-each, each-ext, getD-copied, is-each, length-copied}
 use Rattle.moving.specs.Bytes.{copied, within}
 use Rattle.mover.proofs.Parts.{back-each, by-run, within-after, within-before, within-in}
 use Rattle.mover.specs.Places.{blockPlace, drivePlace, every, inBlock, onDrives, placeBy}
@@ -102,13 +103,13 @@ module _ (Y : ℕ → ℕ) (D : ℕ) where
   other : (q z : ℕ) → (z ≡ Y q → ⊥) → below q z ≡ below (q + 1) z
   other q z ne =
       ⊎-elim
-      (λ (h : z % D < q). below-same q z h ∙ sym (below-same (q + 1) z (omega arith)))
       (λ (h : q ≤ z % D). ⊎-elim
+      (λ (l : q + 1 ≤ z % D). below-not q z h ∙ sym (below-not (q + 1) z l))
       (λ (l : z % D < q + 1). let d : z % D ≡ q = omega arith in
       below-not q z h ∙ sym (below-same (q + 1) z l ∙ ne-eqb z (Y (z % D)) (λ e. ne (e ∙ ap Y d))))
-      (λ (l : q + 1 ≤ z % D). below-not q z h ∙ sym (below-not (q + 1) z l))
-      (lt-or-ge (z % D) (q + 1)))
-      (lt-or-ge (z % D) q)
+      (le-or-lt (q + 1) (z % D)))
+      (λ (h : z % D < q). below-same q z h ∙ sym (below-same (q + 1) z (omega arith)))
+      (le-or-lt q (z % D))
 
   own : (q z : ℕ) → z ≡ Y q → z % D ≡ q → below (q + 1) z ≡ true
   own q z e d = below-same (q + 1) z (omega arith) ∙ eq-eqb z (Y (z % D)) (e ∙ ap Y (sym d))

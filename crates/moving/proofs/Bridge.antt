@@ -12,13 +12,13 @@ use lib.Bits.{bitXor, xor-block, xor-lt, xor-shifted}
 use lib.Dec.{eqb, ltb}
 use lib.Pow.{pow-mono, pow-pos}
 use lib.ListN.{getD, length, take}
-use Rattle.algebra.proofs.Search.{and-l, and-r}
+use Rattle.algebra.proofs.Search.{and-l, and-r, le-or-lt}
 use Rattle.algebra.specs.Matrix.{apply, columns, inverse, target}
 use Rattle.algebra.specs.Vector.{comb, units}
 use Rattle.bank.proofs.Limits.{Allowed}
 use Rattle.bank.specs.Geometry.{block, blockAt, driveAt, drives, loadAt, memory, records, stripeAt, stripes}
 use Rattle.bank.specs.declared.Geometry.{Geometry}
-use Rattle.moving.proofs.Bytes.{each-ext, lt-or-ge, record-of, share}
+use Rattle.moving.proofs.Bytes.{each-ext, record-of, share}
 use Rattle.moving.proofs.Drives.{block-place, block-test, first-lt, target-block-in}
 use Rattle.moving.proofs.Low.{block-drive, on-load, place-block, place-drive, place-form, place-lt}
 use Rattle.moving.proofs.Numbers.{loads, pow-split, stripe-pos}
@@ -59,12 +59,7 @@ module _ (g : Geometry) (ok : Allowed g) (load t : ℕ) (area mem : List ℕ) (l
           ≡ cond (ltb i (t * stripeBytes g)) x (cond (ltb i (t * stripeBytes g + stripeBytes g)) (getD area (load * memory g * g .r + t * stripeBytes g + (i - t * stripeBytes g)) 0) x)
       at i b x =
           ⊎-elim
-          (λ (h : i < t * stripeBytes g).
-          rw (lt-ltb i (t * stripeBytes g) h, ne-eqb (stripeAt g (i / g .r)) t (λ e. omega (arith, div-lt-iff-lt-mul bytes-pos .1 h, stripe-byte i b))))
           (λ (h : t * stripeBytes g ≤ i). ⊎-elim
-          (λ (l : i < t * stripeBytes g + stripeBytes g).
-          rw (le-ltb i (t * stripeBytes g) h, lt-ltb i (t * stripeBytes g + stripeBytes g) l, eq-eqb (stripeAt g (i / g .r)) t (stripe-byte i b ∙ in-run i h l))
-          (ap (λ (k : ℕ). getD area k 0) (at-byte i ∙ omega arith)))
           (λ (l : t * stripeBytes g + stripeBytes g ≤ i).
           rw (
             le-ltb i (t * stripeBytes g) h,
@@ -72,8 +67,13 @@ module _ (g : Geometry) (ok : Allowed g) (load t : ℕ) (area mem : List ℕ) (l
             ne-eqb (stripeAt g (i / g .r)) t
                 (λ e. omega (arith, le-div-iff-mul-le {k = stripeBytes g} {x = suc t} {y = i} bytes-pos .1 (subst (λ (k : ℕ). k ≤ i) (sym (suc-mul t (stripeBytes g))) l), stripe-byte i b)),
           ))
-          (lt-or-ge i (t * stripeBytes g + stripeBytes g)))
-          (lt-or-ge i (t * stripeBytes g))
+          (λ (l : i < t * stripeBytes g + stripeBytes g).
+          rw (le-ltb i (t * stripeBytes g) h, lt-ltb i (t * stripeBytes g + stripeBytes g) l, eq-eqb (stripeAt g (i / g .r)) t (stripe-byte i b ∙ in-run i h l))
+          (ap (λ (k : ℕ). getD area k 0) (at-byte i ∙ omega arith)))
+          (le-or-lt (t * stripeBytes g + stripeBytes g) i))
+          (λ (h : i < t * stripeBytes g).
+          rw (lt-ltb i (t * stripeBytes g) h, ne-eqb (stripeAt g (i / g .r)) t (λ e. omega (arith, div-lt-iff-lt-mul bytes-pos .1 h, stripe-byte i b))))
+          (le-or-lt (t * stripeBytes g) i)
         where
           in-run : (i : ℕ) → t * stripeBytes g ≤ i → i < t * stripeBytes g + stripeBytes g → i / stripeBytes g ≡ t
           in-run i h l = ap (λ (k : ℕ). k / stripeBytes g) (omega arith) ∙ digits-div t {m = stripeBytes g} {r = i - t * stripeBytes g} (omega arith)

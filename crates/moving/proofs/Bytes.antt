@@ -1,19 +1,13 @@
 -- What are the bytes and records of a buffer after a move? Assumes nothing.
 use mathlib.Core.Path.{_∙_, _≡_, ap, refl, subst, sym}
-use mathlib.Core.Logic.{_⊎_, inl, inr, ⊎-elim}
 use mathlib.Core.Bool.{Bool, cond, false, true}
 use mathlib.Core.List.{List, [], _∷_}
-use Prim.Native.Nat.{_%_, _*_, _+_, _/_, _<_, _≤_, suc, suc-le-suc, zero, zero-le, ℕ}
+use Prim.Native.Nat.{_%_, _*_, _+_, _/_, _<_, _≤_, suc, zero, ℕ}
 use native.Mathlib.Nat.{div-lt-iff-lt-mul, le-of-eq, le-of-suc-le-suc, le-trans, mul-le-mul-right, not-suc-le-zero, suc-mul, zero-add}
 use native.Mathlib.Omega.{arith}
 use lib.ListN.{drop, getD, length, length-drop, length-take}
 use lib.Seq.{ext-getD, getD-drop, getD-take}
 use Rattle.moving.specs.Bytes.{copied, each, eachFrom, recordOf}
-
-pub lt-or-ge : (i a : ℕ) → (i < a) ⊎ (a ≤ i)
-lt-or-ge i zero = inr zero-le
-lt-or-ge zero (suc a) = inl (suc-le-suc zero-le)
-lt-or-ge (suc i) (suc a) = ⊎-elim (λ h. inl (suc-le-suc h)) (λ h. inr (suc-le-suc h)) (lt-or-ge i a)
 
 -- one of n shares of k bytes
 pub share : (t n k : ℕ) → t < n → t * k + k ≤ n * k
