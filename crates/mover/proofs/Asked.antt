@@ -123,10 +123,10 @@ module _ (plan : Plan) (state : State) (q : ℕ) (v : Buffers) where
   unfolding runNumber readyNumber fits
   run-number = refl
 
-  pub run-steps-ready : length (plan .rows) ≡ PASSES * ROWS → run-is ≡ 0 → (k : ℕ) → k ≡ min q (total (routeOf plan) - state .next .0) → StepsReady plan (state .next .0) k v
+  pub run-steps-ready : length (plan .rows) ≡ PASSES * ROWS → run-is ≡ 0 → (k : ℕ) → state .next .0 + k ≤ total (routeOf plan) → StepsReady plan (state .next .0) k v
   run-steps-ready long e k m =
       let r = run-ready plan (momentOf state v) e in
-      record { runs = sound→runs plan long (r .sound-plan); within = omega (arith, r .within); fitting = r .fitting }
+      record { runs = sound→runs plan long (r .sound-plan); within = m; fitting = r .fitting }
 
   pub run-total : run-is ≡ 0 → (totalSteps plan ≡ total (routeOf plan)) × (state .next .0 ≤ total (routeOf plan))
   run-total e = let r = run-ready plan (momentOf state v) e in (total-is plan (r .sound-plan), r .within)

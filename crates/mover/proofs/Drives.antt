@@ -10,10 +10,11 @@ use borrow.Author.Tests.{eq-eqb, eqb-false, eqb-true, le-ltb, lt-ltb, ne-eqb}
 use lib.Arith.{digits-div, digits-mod}
 use lib.Dec.{eqb, ltb}
 use lib.ListN.{length, getD, take, drop}
-use Rattle.moving.proofs.Bytes.{each-each, each-ext, getD-copied, is-each, length-copied, lt-or-ge}
+use Rattle.algebra.proofs.Search.{le-or-lt}
+use Rattle.moving.proofs.Bytes.{each-each, each-ext, getD-copied, is-each, length-copied}
 use Rattle.moving.specs.Bytes.{copied, within}
 use Rattle.mover.proofs.Parts.{back-each, by-run, within-after, within-before, within-in}
-use Rattle.mover.specs.Places.{every, inBlock, onDrives, placeBy, placeIn, placeOn}
+use Rattle.mover.specs.Places.{blockPlace, drivePlace, every, inBlock, onDrives, placeBy}
 
 -- r is positive where a * r is
 pub pos-right : (a r j : ℕ) → j < a * r → 0 < r
@@ -102,13 +103,13 @@ module _ (Y : ℕ → ℕ) (D : ℕ) where
   other : (q z : ℕ) → (z ≡ Y q → ⊥) → below q z ≡ below (q + 1) z
   other q z ne =
       ⊎-elim
-      (λ (h : z % D < q). below-same q z h ∙ sym (below-same (q + 1) z (omega arith)))
       (λ (h : q ≤ z % D). ⊎-elim
+      (λ (l : q + 1 ≤ z % D). below-not q z h ∙ sym (below-not (q + 1) z l))
       (λ (l : z % D < q + 1). let d : z % D ≡ q = omega arith in
       below-not q z h ∙ sym (below-same (q + 1) z l ∙ ne-eqb z (Y (z % D)) (λ e. ne (e ∙ ap Y d))))
-      (λ (l : q + 1 ≤ z % D). below-not q z h ∙ sym (below-not (q + 1) z l))
-      (lt-or-ge (z % D) (q + 1)))
-      (lt-or-ge (z % D) q)
+      (le-or-lt (q + 1) (z % D)))
+      (λ (h : z % D < q). below-same q z h ∙ sym (below-same (q + 1) z (omega arith)))
+      (le-or-lt q (z % D))
 
   own : (q z : ℕ) → z ≡ Y q → z % D ≡ q → below (q + 1) z ≡ true
   own q z e d = below-same (q + 1) z (omega arith) ∙ eq-eqb z (Y (z % D)) (e ∙ ap Y (sym d))
@@ -125,28 +126,28 @@ module _ (Y : ℕ → ℕ) (D : ℕ) where
   module _ (P : ℕ → ℕ) (columns : List ℕ) (r count : ℕ) (m a : List ℕ) where
     -- the area once the drives below q have their block
     abbrev pub drivesDone : ℕ → List ℕ
-    drivesDone q = copied (λ x. below q (x / count)) (placeOn count D P columns) r m a
+    drivesDone q = copied (λ x. below q (x / count)) (drivePlace count D P columns) r m a
 
     pub drives-none : a ≡ drivesDone 0
     unfolding copied
     drives-none =
-        is-each (λ i x. cond (below 0 (i / r / count)) (getD m (placeOn count D P columns (i / r) * r + i % r) 0) x) a a refl
-        (λ i h. sym (ap (λ (t : Bool). cond t (getD m (placeOn count D P columns (i / r) * r + i % r) 0) (getD a i 0)) (below-not 0 (i / r / count) (omega arith))))
+        is-each (λ i x. cond (below 0 (i / r / count)) (getD m (drivePlace count D P columns (i / r) * r + i % r) 0) x) a a refl
+        (λ i h. sym (ap (λ (t : Bool). cond t (getD m (drivePlace count D P columns (i / r) * r + i % r) 0) (getD a i 0)) (below-not 0 (i / r / count) (omega arith))))
 
-    pub drives-all : 0 < D → drivesDone D ≡ copied (onDrives count D Y) (placeOn count D P columns) r m a
+    pub drives-all : 0 < D → drivesDone D ≡ copied (onDrives count D Y) (drivePlace count D P columns) r m a
     unfolding copied
     drives-all pos =
-        each-ext (λ i x. cond (below D (i / r / count)) (getD m (placeOn count D P columns (i / r) * r + i % r) 0) x)
-        (λ i x. cond (onDrives count D Y (i / r)) (getD m (placeOn count D P columns (i / r) * r + i % r) 0) x) a
-        (λ i h. ap (λ (t : Bool). cond t (getD m (placeOn count D P columns (i / r) * r + i % r) 0) (getD a i 0)) (below-same D (i / r / count) (mod-lt (i / r / count) pos)))
+        each-ext (λ i x. cond (below D (i / r / count)) (getD m (drivePlace count D P columns (i / r) * r + i % r) 0) x)
+        (λ i x. cond (onDrives count D Y (i / r)) (getD m (drivePlace count D P columns (i / r) * r + i % r) 0) x) a
+        (λ i h. ap (λ (t : Bool). cond t (getD m (drivePlace count D P columns (i / r) * r + i % r) 0) (getD a i 0)) (below-same D (i / r / count) (mod-lt (i / r / count) pos)))
 
     pub drives-turn : (a₁ : List ℕ) (q y base : ℕ) → a₁ ≡ drivesDone q → y ≡ Y q → y % D ≡ q → base ≡ P q
-        → copied (inBlock count y) (placeIn count base columns) r m a₁ ≡ drivesDone (q + 1)
+        → copied (inBlock count y) (blockPlace count base columns) r m a₁ ≡ drivesDone (q + 1)
     unfolding copied
     drives-turn a₁ q y base e ey yq eb =
-        ap (λ (l : List ℕ). copied (inBlock count y) (placeIn count base columns) r m l) e
-        ∙ each-each (λ i x. cond (below q (i / r / count)) (getD m (placeOn count D P columns (i / r) * r + i % r) 0) x)
-        (λ i x. cond (eqb (i / r / count) y) (getD m (placeIn count base columns (i / r) * r + i % r) 0) x)
-        (λ i x. cond (below (q + 1) (i / r / count)) (getD m (placeOn count D P columns (i / r) * r + i % r) 0) x) a
-        (λ i h. turn-byte q y (i / r / count) (getD m (placeIn count base columns (i / r) * r + i % r) 0) (getD m (placeOn count D P columns (i / r) * r + i % r) 0) (getD a i 0) ey yq
+        ap (λ (l : List ℕ). copied (inBlock count y) (blockPlace count base columns) r m l) e
+        ∙ each-each (λ i x. cond (below q (i / r / count)) (getD m (drivePlace count D P columns (i / r) * r + i % r) 0) x)
+        (λ i x. cond (eqb (i / r / count) y) (getD m (blockPlace count base columns (i / r) * r + i % r) 0) x)
+        (λ i x. cond (below (q + 1) (i / r / count)) (getD m (drivePlace count D P columns (i / r) * r + i % r) 0) x) a
+        (λ i h. turn-byte q y (i / r / count) (getD m (blockPlace count base columns (i / r) * r + i % r) 0) (getD m (drivePlace count D P columns (i / r) * r + i % r) 0) (getD a i 0) ey yq
         (λ z. ap (λ (p : ℕ). getD m (placeBy p columns (i / r % count) * r + i % r) 0) (eb ∙ ap P (sym (ap (λ (k : ℕ). k % D) z ∙ yq)))))

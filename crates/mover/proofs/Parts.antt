@@ -2,19 +2,16 @@
 use mathlib.Core.Path.{_≡_, refl, sym, ap, _∙_}
 use mathlib.Core.Logic.{⊎-elim}
 use mathlib.Core.List.{List, _++_}
-use Prim.Native.Nat.{ℕ, _+_, _-_, _*_, _≤_, _<_}
-use native.Mathlib.Nat.{le-trans, le-of-eq, suc-mul, mul-le-mul-right, zero-add}
+use Prim.Native.Nat.{ℕ, _+_, _-_, _≤_, _<_}
+use native.Mathlib.Nat.{zero-add}
 use native.Mathlib.Omega.{arith}
 use borrow.Author.Count.{below-more}
 use borrow.Author.Tests.{lt-ltb, le-ltb}
 use lib.ListN.{length, getD, set, take, drop, length-append, length-drop, List·getD-append}
 use lib.Seq.{getD-set-same, getD-set-other, getD-append-add, length-take-le, getD-take, getD-drop}
-use Rattle.moving.proofs.Bytes.{each-each, each-ext, is-each, length-each, lt-or-ge}
+use Rattle.algebra.proofs.Search.{le-or-lt}
+use Rattle.moving.proofs.Bytes.{each-each, each-ext, is-each, length-each}
 use Rattle.moving.specs.Bytes.{each, laid, within}
-
--- a turn's share of n turns' k bytes each
-pub share : (t n k : ℕ) → t < n → t * k + k ≤ n * k
-share t n k h = le-trans (le-of-eq (sym (suc-mul t k))) (mul-le-mul-right k h)
 
 -- a turn of the loop that copies
 pub copy-more : (d s : List ℕ) (i : ℕ) → i < length d → ((k : ℕ) → k < i → getD d k 0 ≡ getD s k 0) → (k : ℕ) → k < i + 1 → getD (set d i (getD s i 0)) k 0 ≡ getD s k 0
@@ -40,7 +37,7 @@ module _ (a k i v x : ℕ) where
 
 -- what is shown before, in and after the run is shown
 pub by-run : (a k i : ℕ) (P : Type 0) → (i < a → P) → (a ≤ i → i < a + k → P) → (a + k ≤ i → P) → P
-by-run a k i P b n f = ⊎-elim b (λ h. ⊎-elim (n h) f (lt-or-ge i (a + k))) (lt-or-ge i a)
+by-run a k i P b n f = ⊎-elim (λ h. ⊎-elim f (n h) (le-or-lt (a + k) i)) b (le-or-lt a i)
 
 -- a run depends on its values inside alone
 pub within-ap : (a k n i v w x : ℕ) → k ≡ n → (a ≤ i → i < a + n → v ≡ w) → within a k i v x ≡ within a n i w x

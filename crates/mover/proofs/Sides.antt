@@ -2,11 +2,13 @@
 use mathlib.Core.Path.{_≡_, refl, sym, ap, ap₂, _∙_}
 use mathlib.Core.Bool.{Bool, true, false, not}
 use mathlib.Core.List.{List}
-use Prim.Native.Nat.{ℕ, zero, suc, _%_}
-use borrow.Author.Tests.{eq-eqb, ne-eqb}
+use Prim.Native.Nat.{ℕ, zero, suc, _*_}
+use lib.ListN.{length}
+use Rattle.bank.specs.Geometry.{records}
+use Rattle.bank.specs.declared.Geometry.{Geometry}
 use Rattle.moving.proofs.Numbers.{load-of-lt, turn-lt}
 use Rattle.moving.specs.Bytes.{copied}
-use Rattle.moving.specs.Step.{Buffers, areaBy, byPhase, even, readFrom, readMove, readTakes, withAreaBy, withMemory, writeFrom, writeMove, writeTakes}
+use Rattle.moving.specs.Step.{Buffers, Fits, areaBy, byPhase, even, readFrom, readMove, readTakes, withAreaBy, withMemory, writeFrom, writeMove, writeTakes}
 use Rattle.mover.specs.Moving.{BetweenReady, MoveReady, memoryAfter, moveBy, toAfter}
 use Rattle.mover.specs.Tables.{passFor}
 use Rattle.mover.specs.Turns.{bare, turnAt}
@@ -28,77 +30,64 @@ module _ (t : Tables) (at : Turn) (from to mem : List ℕ) where
   pub reads-to : at .phase ≡ 0 → to ≡ toAfter t at to mem
   reads-to e = ap (λ (k : ℕ). byPhase k to written) (sym e)
 
-  pub reads-memory : at .phase ≡ 0 → read ≡ memoryAfter t at from mem
-  reads-memory e = ap (λ (k : ℕ). byPhase k read mem) (sym e)
+  pub reads-memory : (mem′ : List ℕ) → at .phase ≡ 0 → mem′ ≡ read → mem′ ≡ memoryAfter t at from mem
+  reads-memory mem′ z e = e ∙ ap (λ (k : ℕ). byPhase k read mem) (sym z)
 
-  pub writes-to : (at .phase ≡ 0 → ⊥) → written ≡ toAfter t at to mem
-  writes-to ne = by-writes (at .phase) to written ne
+  pub writes-to : (to′ : List ℕ) → (at .phase ≡ 0 → ⊥) → to′ ≡ written → to′ ≡ toAfter t at to mem
+  writes-to to′ ne e = e ∙ by-writes (at .phase) to written ne
 
   pub writes-memory : (at .phase ≡ 0 → ⊥) → mem ≡ memoryAfter t at from mem
   writes-memory ne = by-writes (at .phase) read mem ne
 
--- the area written and memory, phase by phase
-module _ (v : Buffers) (R W to′ m′ : List ℕ) where
-  to-one : (k : ℕ) → to′ ≡ byPhase k (v .area1) W → m′ ≡ byPhase k R (v .memory)
-      → _≡_ {A = Buffers} (record { area0 = v .area0; area1 = to′; memory = m′ }) (byPhase k (withMemory R v) (withAreaBy false W v))
-  to-one zero e f = ap₂ (λ (x y : List ℕ). record { area0 = v .area0; area1 = x; memory = y }) e f
-  to-one (suc k) e f = ap₂ (λ (x y : List ℕ). record { area0 = v .area0; area1 = x; memory = y }) e f
+-- ---- the side that is read is b, the side written the other
 
-  to-zero : (k : ℕ) → to′ ≡ byPhase k (v .area0) W → m′ ≡ byPhase k R (v .memory)
-      → _≡_ {A = Buffers} (record { area0 = to′; area1 = v .area1; memory = m′ }) (byPhase k (withMemory R v) (withAreaBy true W v))
-  to-zero zero e f = ap₂ (λ (x y : List ℕ). record { area0 = x; area1 = v .area1; memory = y }) e f
-  to-zero (suc k) e f = ap₂ (λ (x y : List ℕ). record { area0 = x; area1 = v .area1; memory = y }) e f
+module _ (v : Buffers) where
+  area-kept : (b : Bool) → withAreaBy b (areaBy b v) v ≡ v
+  area-kept true = refl
+  area-kept false = refl
+
+  memory-kept : (b : Bool) (l : List ℕ) → withMemory (v .memory) (withAreaBy b l v) ≡ withAreaBy b l v
+  memory-kept true l = refl
+  memory-kept false l = refl
+
+  -- the area written and memory, phase by phase
+  both : (b : Bool) (R W to′ m′ : List ℕ) (k : ℕ) → to′ ≡ byPhase k (areaBy b v) W → m′ ≡ byPhase k R (v .memory)
+      → withMemory m′ (withAreaBy b to′ v) ≡ byPhase k (withMemory R v) (withAreaBy b W v)
+  both b R W to′ m′ zero e f = ap₂ (λ (x y : List ℕ). withMemory y (withAreaBy b x v)) e f ∙ ap (withMemory R) (area-kept b)
+  both b R W to′ m′ (suc k) e f = ap₂ (λ (x y : List ℕ). withMemory y (withAreaBy b x v)) e f ∙ memory-kept b W
+
+area-long : (g : Geometry) (v : Buffers) (b : Bool) → Fits g v → length (areaBy b v) ≡ records g * g .r
+area-long g v true k = k .area0-long
+area-long g v false k = k .area1-long
 
 module _ (t : Tables) (s : ℕ) (v : Buffers) where
-  abbrev at : Turn
-  at = turnAt (t .geometry) s
-
   -- the same move, with the side that is read as a parameter
-  side : Bool → Buffers
-  side b =
+  side : Bool → Turn → Buffers
+  side b at =
       byPhase (at .phase) (withMemory (copied (readTakes (t .geometry) (at .turn)) (readFrom (t .geometry) (at .load)) (t .geometry .r) (areaBy b v) (v .memory)) v)
       (withAreaBy (not b) (copied (writeTakes (t .geometry) (passFor t) (at .load) (at .turn)) (writeFrom (t .geometry) (passFor t)) (t .geometry .r) (v .memory) (areaBy (not b) v)) v)
 
-  sided : side (even (t .pass)) ≡ moveBy t s v
+  sided : side (even (t .pass)) (turnAt (t .geometry) s) ≡ moveBy t s v
   unfolding side moveBy readMove writeMove
   sided = refl
 
-  pub even-move : (to′ m′ : List ℕ) → t .pass % 2 ≡ 0 → to′ ≡ toAfter t at (v .area1) (v .memory) → m′ ≡ memoryAfter t at (v .area0) (v .memory)
-      → _≡_ {A = Buffers} (record { area0 = v .area0; area1 = to′; memory = m′ }) (moveBy t s v)
-  unfolding side
-  even-move to′ m′ p e f =
-      to-one v (copied (readTakes (t .geometry) (at .turn)) (readFrom (t .geometry) (at .load)) (t .geometry .r) (v .area0) (v .memory))
-      (copied (writeTakes (t .geometry) (passFor t) (at .load) (at .turn)) (writeFrom (t .geometry) (passFor t)) (t .geometry .r) (v .memory) (v .area1)) to′ m′ (at .phase) e f
-      ∙ sym (ap side (eq-eqb (t .pass % 2) 0 p)) ∙ sided
+  module _ (b : Bool) (at : Turn) (turn : at ≡ turnAt (t .geometry) s) where
+    pub side-move : even (t .pass) ≡ b → (to′ m′ : List ℕ) → to′ ≡ toAfter t at (areaBy (not b) v) (v .memory) → m′ ≡ memoryAfter t at (areaBy b v) (v .memory)
+        → withMemory m′ (withAreaBy (not b) to′ v) ≡ moveBy t s v
+    unfolding side
+    side-move p to′ m′ e f =
+        both v (not b) (copied (readTakes (t .geometry) (at .turn)) (readFrom (t .geometry) (at .load)) (t .geometry .r) (areaBy b v) (v .memory))
+        (copied (writeTakes (t .geometry) (passFor t) (at .load) (at .turn)) (writeFrom (t .geometry) (passFor t)) (t .geometry .r) (v .memory) (areaBy (not b) v)) to′ m′ (at .phase) e f
+        ∙ ap₂ side (sym p) turn ∙ sided
 
-  pub odd-move : (to′ m′ : List ℕ) → (t .pass % 2 ≡ 0 → ⊥) → to′ ≡ toAfter t at (v .area0) (v .memory) → m′ ≡ memoryAfter t at (v .area1) (v .memory)
-      → _≡_ {A = Buffers} (record { area0 = to′; area1 = v .area1; memory = m′ }) (moveBy t s v)
-  unfolding side
-  odd-move to′ m′ p e f =
-      to-zero v (copied (readTakes (t .geometry) (at .turn)) (readFrom (t .geometry) (at .load)) (t .geometry .r) (v .area1) (v .memory))
-      (copied (writeTakes (t .geometry) (passFor t) (at .load) (at .turn)) (writeFrom (t .geometry) (passFor t)) (t .geometry .r) (v .memory) (v .area0)) to′ m′ (at .phase) e f
-      ∙ sym (ap side (ne-eqb (t .pass % 2) 0 p)) ∙ sided
-
-  -- what each asks
-  module _ (k : MoveReady t v) where
-    pub even-ready : BetweenReady t at (v .area0) (v .area1) (v .memory)
-    even-ready =
+    -- what it asks
+    pub side-ready : MoveReady t v → BetweenReady t at (areaBy b v) (areaBy (not b) v) (v .memory)
+    side-ready k =
         record {
           prepared = k .prepared;
-          load-in = load-of-lt (bare (t .geometry)) (k .prepared .ready .allowed) s;
-          turn-in = turn-lt (bare (t .geometry)) (k .prepared .ready .allowed) s;
-          from-long = k .fitting .area0-long;
-          to-long = k .fitting .area1-long;
-          memory-long = k .fitting .memory-long;
-        }
-
-    pub odd-ready : BetweenReady t at (v .area1) (v .area0) (v .memory)
-    odd-ready =
-        record {
-          prepared = k .prepared;
-          load-in = load-of-lt (bare (t .geometry)) (k .prepared .ready .allowed) s;
-          turn-in = turn-lt (bare (t .geometry)) (k .prepared .ready .allowed) s;
-          from-long = k .fitting .area1-long;
-          to-long = k .fitting .area0-long;
+          load-in = rw turn (load-of-lt (bare (t .geometry)) (k .prepared .ready .allowed) s);
+          turn-in = rw turn (turn-lt (bare (t .geometry)) (k .prepared .ready .allowed) s);
+          from-long = area-long (t .geometry) v b (k .fitting);
+          to-long = area-long (t .geometry) v (not b) (k .fitting);
           memory-long = k .fitting .memory-long;
         }

@@ -15,16 +15,15 @@ use Rattle.algebra.specs.Vector.{comb}
 use Rattle.bank.specs.Geometry.{block, drives, loads, memory, records, stripes}
 use Rattle.bank.specs.declared.Geometry.{Geometry}
 use Rattle.moving.proofs.Bridge.{block-base, code-block, code-drive, code-place, codeBlock, codePlace, place-base, read-laid, stripeBytes, write-as-code}
-use Rattle.moving.proofs.Bytes.{each-ext}
+use Rattle.moving.proofs.Bytes.{each-ext, share}
 use Rattle.moving.proofs.Numbers.{memory-is, pow-split, records-is}
 use Rattle.moving.specs.Blocks.{blockStart, placeIn, targetBlock}
 use Rattle.moving.specs.Bytes.{copied, laid, landed}
 use Rattle.moving.specs.Step.{readFrom, readTakes, writeFrom, writeTakes}
 use Rattle.planning.specs.Pass.{Pass}
 use Rattle.mover.proofs.Columns.{all-columns, part-blocks, part-columns}
-use Rattle.mover.proofs.Parts.{share}
 use Rattle.mover.proofs.Sizes.{memory-fit, records-fit, start-lt}
-use Rattle.mover.specs.Places.{onDrives, placeBy, placeOn}
+use Rattle.mover.specs.Places.{drivePlace, onDrives, placeBy}
 use Rattle.mover.specs.Tables.{ReadReady, WriteReady, passFor}
 use Rattle.mover.specs.declared.tables.Tables.{Tables}
 
@@ -180,7 +179,7 @@ module _ (t : Tables) (load turn : ℕ) (area mem : List ℕ) (k : WriteReady t 
     in-memory q h j l =
         rw (place-same q j, k .within .memory-long) (code-place g (k .within .allowed) pass (k .prepared .ready .runs) load turn (k .within .load-in) (k .within .turn-in) q j h l)
 
-    pub write-is : copied (onDrives B D (placeBy first blocks)) (placeOn B D (placeBy place places) cols) (g .r) mem area ≡ copied (writeTakes g pass load turn) (writeFrom g pass) (g .r) mem area
+    pub write-is : copied (onDrives B D (placeBy first blocks)) (drivePlace B D (placeBy place places) cols) (g .r) mem area ≡ copied (writeTakes g pass load turn) (writeFrom g pass) (g .r) mem area
     unfolding copied landed
     write-is =
         each-ext (λ i x. cond (eqb (i / g .r / B) (placeBy first blocks (i / g .r / B % D))) (getD mem (placeBy (placeBy place places (i / g .r / B % D)) cols (i / g .r % B) * g .r + i % g .r) 0) x)

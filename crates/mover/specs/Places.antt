@@ -24,13 +24,13 @@ abbrev pub inBlock : ℕ → ℕ → ℕ → Bool
 inBlock count y x = eqb (x / count) y
 
 -- the place for record x, as the record of its block that it is
-abbrev pub placeIn : ℕ → ℕ → List ℕ → ℕ → ℕ
-placeIn count base columns x = placeBy base columns (x % count)
+abbrev pub blockPlace : ℕ → ℕ → List ℕ → ℕ → ℕ
+blockPlace count base columns x = placeBy base columns (x % count)
 
 -- record x lies in the block Y q of its drive q; block y lies on drive y % D
 abbrev pub onDrives : ℕ → ℕ → (ℕ → ℕ) → ℕ → Bool
 onDrives count D Y x = eqb (x / count) (Y (x / count % D))
 
 -- the place for record x: P q is that of the first record of drive q's block
-abbrev pub placeOn : ℕ → ℕ → (ℕ → ℕ) → List ℕ → ℕ → ℕ
-placeOn count D P columns x = placeBy (P (x / count % D)) columns (x % count)
+abbrev pub drivePlace : ℕ → ℕ → (ℕ → ℕ) → List ℕ → ℕ → ℕ
+drivePlace count D P columns x = placeBy (P (x / count % D)) columns (x % count)

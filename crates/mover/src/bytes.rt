@@ -6,7 +6,7 @@ ghost use Rattle.moving.specs.Bytes.{copied, laid};
 ghost use Rattle.mover.specs.Places.{every, flips, placeBy};
 
 // dst becomes src, which is as long.
-pub fn copy_into(dst: &mut [u8], src: &[u8])
+fn copy_into(dst: &mut [u8], src: &[u8])
     requires { ⌜ length (now dst) ≡ length (now src) ⌝ }
     ensures { λ _. ⌜ now (dst .exit) ≡ now (src .entry) ⌝ }
 {
@@ -18,7 +18,7 @@ pub fn copy_into(dst: &mut [u8], src: &[u8])
 }
 
 // dst with all of src from index at on.
-pub fn copy_part(dst: &mut [u8], at: usize, src: &[u8])
+pub(crate) fn copy_part(dst: &mut [u8], at: usize, src: &[u8])
     requires { ⌜ at + length (now src) ≤ length (now dst) ⌝ }
     ensures { λ _. ⌜ now (dst .exit) ≡ laid (now (dst .entry)) at (length (now (src .entry))) (now (src .entry)) 0 ⌝ }
 {
@@ -27,7 +27,7 @@ pub fn copy_part(dst: &mut [u8], at: usize, src: &[u8])
 }
 
 // What a place changes by from number k to number k + 1: the carry walks up the columns.
-pub fn flip(columns: &[u32], k: usize) -> u32
+pub(crate) fn flip(columns: &[u32], k: usize) -> u32
     ensures { λ r. ⌜ r ≡ flips (now (columns .entry)) k ⌝ }
 {
     let mut s: u32 = 0;
@@ -45,7 +45,7 @@ pub fn flip(columns: &[u32], k: usize) -> u32
 }
 
 // Every record of the block from its place in memory: record k from the base and the columns that k picks.
-pub fn fill_block(
+pub(crate) fn fill_block(
     block: &mut [u8],
     memory: &[u8],
     columns: &[u32],

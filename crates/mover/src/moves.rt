@@ -4,7 +4,7 @@ ghost use Prim.Native.Nat.{ℕ, _+_, _*_, _%_, _≤_, _<_};
 ghost use lib.ListN.{length};
 ghost use Rattle.moving.specs.Bytes.{copied, laid};
 ghost use Rattle.moving.specs.Step.{readTakes, readFrom, writeTakes, writeFrom};
-ghost use Rattle.mover.specs.Places.{placeBy, inBlock, onDrives, placeIn, placeOn};
+ghost use Rattle.mover.specs.Places.{placeBy, inBlock, onDrives, blockPlace, drivePlace};
 ghost use Rattle.mover.specs.Promise.{buffersOf};
 ghost use Rattle.mover.specs.Moving.{BetweenReady, MoveReady, moveBy, toAfter, memoryAfter};
 ghost use Rattle.mover.specs.Tables.{ReadReady, WriteReady, passFor};
@@ -61,7 +61,7 @@ fn write_block(
 )
     requires { ⌜ (0 < count * r) × (block .0 * (count * r) + count * r ≤ length (now area)) ⌝ }
     requires { ⌜ ((k : ℕ) → k < count → placeBy place (now columns) k * r + r ≤ length (now memory)) ⌝ }
-    ensures { λ _. ⌜ now (area .exit) ≡ copied (inBlock count (block .0)) (placeIn count place (now (columns .entry))) r (now (memory .entry)) (now (area .entry)) ⌝ }
+    ensures { λ _. ⌜ now (area .exit) ≡ copied (inBlock count (block .0)) (blockPlace count place (now (columns .entry))) r (now (memory .entry)) (now (area .entry)) ⌝ }
 {
     let n = count * r;
     let o = block.0 as usize * n;
@@ -87,7 +87,7 @@ fn write_drives(
     requires { ⌜ ((q : ℕ) → q < drives → placeBy (first .0) (now blocks) q % drives ≡ q) ⌝ }
     requires { ⌜ ((q : ℕ) → q < drives → placeBy (first .0) (now blocks) q * (count * r) + count * r ≤ length (now area)) ⌝ }
     requires { ⌜ ((q : ℕ) → q < drives → (k : ℕ) → k < count → placeBy (placeBy place (now places) q) (now columns) k * r + r ≤ length (now memory)) ⌝ }
-    ensures { λ _. ⌜ now (area .exit) ≡ copied (onDrives count drives (placeBy (first .0) (now (blocks .entry)))) (placeOn count drives (placeBy place (now (places .entry))) (now (columns .entry))) r (now (memory .entry)) (now (area .entry)) ⌝ }
+    ensures { λ _. ⌜ now (area .exit) ≡ copied (onDrives count drives (placeBy (first .0) (now (blocks .entry)))) (drivePlace count drives (placeBy place (now (places .entry))) (now (columns .entry))) r (now (memory .entry)) (now (area .entry)) ⌝ }
 {
     let mut q = 0;
     let mut block = first;
@@ -103,20 +103,21 @@ fn write_drives(
 }
 
 // Read turn of a load: on each drive, one block of the area goes to its place in memory.
-pub fn read_step(memory: &mut [u8], area: &[u8], g: Geometry, load: u64, turn: u64)
+fn read_step(memory: &mut [u8], area: &[u8], g: Geometry, load: u64, turn: u64)
     requires { ⌜ ReadReady g load turn (now area) (now memory) ⌝ }
     ensures { λ _. ⌜ now (memory .exit) ≡ copied (readTakes g turn) (readFrom g load) (g .r) (now (area .entry)) (now (memory .entry)) ⌝ }
 {
     let drives = power(g.d);
     let size = power(g.b) * g.r as u64;
     let stripe = turn * drives;
-    let first = Block(load * power(g.m - g.b) + stripe);
+    let blocks = power(g.m - g.b);
+    let first = Block(load * blocks + stripe);
     let at = (stripe * size) as usize;
     read_drives(memory, at, area, first, size as usize, drives as usize);
 }
 
 // Write turn of a load: on each drive, one block of the area is filled from memory, which stays.
-pub fn write_step(area: &mut [u8], memory: &[u8], t: Tables, load: u64, turn: u64)
+fn write_step(area: &mut [u8], memory: &[u8], t: Tables, load: u64, turn: u64)
     requires { ⌜ WriteReady t load turn (now area) (now memory) ⌝ }
     ensures { λ _. ⌜ now (area .exit) ≡ copied (writeTakes (t .geometry) (passFor t) load turn) (writeFrom (t .geometry) (passFor t)) (t .geometry .r) (now (memory .entry)) (now (area .entry)) ⌝ }
 {
@@ -160,7 +161,7 @@ fn move_between(from: &[u8], to: &mut [u8], memory: &mut [u8], t: Tables, at: Tu
 }
 
 // The move of a step of the tables' pass. Even passes read area 0.
-pub fn move_step(t: Tables, s: Step, area0: &mut [u8], area1: &mut [u8], memory: &mut [u8])
+pub(crate) fn move_step(t: Tables, s: Step, area0: &mut [u8], area1: &mut [u8], memory: &mut [u8])
     requires { ⌜ MoveReady t (buffersOf (now area0) (now area1) (now memory)) ⌝ }
     ensures { λ _. ⌜ buffersOf (now (area0 .exit)) (now (area1 .exit)) (now (memory .exit)) ≡ moveBy t (s .0) (buffersOf (now (area0 .entry)) (now (area1 .entry)) (now (memory .entry))) ⌝ }
 {

@@ -94,7 +94,9 @@ pub fn run(
             state: s,
         };
     }
-    let count = least(allowance, total_steps(plan) - next.0);
+    let all = total_steps(plan);
+    let left = all - next.0;
+    let count = least(allowance, left);
     run_steps(plan, next, count, area0, area1, memory);
     let s = state.advanced(count);
     Ran {

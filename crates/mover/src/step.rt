@@ -44,7 +44,7 @@ fn lengths_fit(g: Geometry, area0: usize, area1: usize, memory: usize) -> bool
 }
 
 // What is checked before a step or a run: 7, the plan can't run; 4, a buffer isn't of its length.
-pub fn ready_number(plan: Plan, next: Step, area0: usize, area1: usize, memory: usize) -> u8
+pub(crate) fn ready_number(plan: Plan, next: Step, area0: usize, area1: usize, memory: usize) -> u8
     ensures { λ r. ⌜ r ≡ readyBy plan (next .0) area0 area1 memory 0 ⌝ }
 {
     if !can_run(plan, next) {

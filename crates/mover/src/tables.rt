@@ -25,7 +25,7 @@ use plan::store::pass_rows;
 use planning::Plan;
 
 // The pass's rows and complement; the columns of the inverse of its low m by m part; what the pass makes of those, in blocks.
-pub struct Tables {
+pub(crate) struct Tables {
     pub geometry: Geometry,
     pub pass: u64,
     pub rows: [u32; ROWS],
@@ -55,7 +55,7 @@ fn block_columns(
 }
 
 // The tables of a pass.
-pub fn tables_for(g: Geometry, pass: u64, rows: [u32; ROWS], complement: u32) -> Tables
+fn tables_for(g: Geometry, pass: u64, rows: [u32; ROWS], complement: u32) -> Tables
     requires { ⌜ TablesReady g rows complement ⌝ }
     ensures { λ r. ⌜ r ≡ tablesFor g pass rows complement ⌝ }
 {
@@ -74,7 +74,7 @@ pub fn tables_for(g: Geometry, pass: u64, rows: [u32; ROWS], complement: u32) ->
 }
 
 // The tables of pass p of a plan that can run.
-pub fn tables_of(plan: Plan, p: u64) -> Tables
+pub(crate) fn tables_of(plan: Plan, p: u64) -> Tables
     requires { ⌜ Runs (routeOf plan) × (p < plan .count) ⌝ }
     ensures { λ r. ⌜ r ≡ tablesOf plan p ⌝ }
 {
@@ -86,7 +86,7 @@ pub fn tables_of(plan: Plan, p: u64) -> Tables
 }
 
 // Where the pass sends the record at x.
-pub fn goes_to(t: Tables, x: Address) -> Address
+pub(crate) fn goes_to(t: Tables, x: Address) -> Address
     requires { ⌜ Allowed (t .geometry) × (x .0 < records (t .geometry)) ⌝ }
     ensures { λ r. ⌜ r .0 ≡ target (passFor t .rows) (t .complement) (x .0) ⌝ }
 {
@@ -96,7 +96,7 @@ pub fn goes_to(t: Tables, x: Address) -> Address
 }
 
 // The place of the first record of the block that write turn fills on drive 0, where the load's first record goes to `goes`.
-pub fn first_place(t: Tables, goes: Address, turn: u64) -> u32
+pub(crate) fn first_place(t: Tables, goes: Address, turn: u64) -> u32
     requires { ⌜ Allowed (t .geometry) × (turn < stripes (t .geometry)) ⌝ }
     ensures { λ r. ⌜ r ≡ comb (take (t .geometry .m) (t .columns)) (bitXor (blockStart (t .geometry) turn 0) (goes .0 % memory (t .geometry))) ⌝ }
 {
@@ -108,7 +108,7 @@ pub fn first_place(t: Tables, goes: Address, turn: u64) -> u32
 }
 
 // That block.
-pub fn first_block(t: Tables, goes: Address, place: u32) -> Block
+pub(crate) fn first_block(t: Tables, goes: Address, place: u32) -> Block
     requires { ⌜ Allowed (t .geometry) ⌝ }
     ensures { λ r. ⌜ r .0 ≡ bitXor (apply (passFor t .rows) place) (goes .0) / block (t .geometry) ⌝ }
 {

@@ -9,7 +9,7 @@ use bank::Step;
 use bank::power;
 
 // Where in its pass a step stands: its memoryload, reads or writes, and which of them.
-pub struct Turn {
+pub(crate) struct Turn {
     pub load: u64,
     pub phase: u64,
     pub turn: u64,
@@ -24,7 +24,7 @@ fn stripes(g: Geometry) -> u64
 }
 
 // The steps of a pass.
-pub fn pass_steps(g: Geometry) -> u64
+pub(crate) fn pass_steps(g: Geometry) -> u64
     requires { ⌜ Allowed g ⌝ }
     ensures { λ r. ⌜ r ≡ passSteps (bare g) ⌝ }
 {
@@ -32,7 +32,7 @@ pub fn pass_steps(g: Geometry) -> u64
 }
 
 // The pass of a step.
-pub fn pass_of(g: Geometry, s: Step) -> u64
+pub(crate) fn pass_of(g: Geometry, s: Step) -> u64
     requires { ⌜ Allowed g ⌝ }
     ensures { λ r. ⌜ r ≡ passOf (bare g) (s .0) ⌝ }
 {
@@ -40,7 +40,7 @@ pub fn pass_of(g: Geometry, s: Step) -> u64
 }
 
 // Its turn there.
-pub fn turn_of(g: Geometry, s: Step) -> Turn
+pub(crate) fn turn_of(g: Geometry, s: Step) -> Turn
     requires { ⌜ Allowed g ⌝ }
     ensures { λ r. ⌜ r ≡ turnAt g (s .0) ⌝ }
 {

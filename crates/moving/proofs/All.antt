@@ -118,24 +118,6 @@ module _ (route : Route) (ok : Allowed (route .geometry)) (runs : (p : ℕ) → 
   reached zero h = subst (λ (i : ℕ). Reached route v₀ 0 (moves route i v₀)) (sym (zero-mul (passSteps route))) reached-start
   reached (suc k) h = reached-next k h (reached k (omega arith))
 
-  -- ONE PASS. Its steps leave the area read as it was, and record y of the other area is the record that began at y's source
-  pub one-pass-reads : (p : ℕ) → p < length (route .passes) → areaOf p (moves route (suc p * passSteps route) v₀) ≡ areaOf p (moves route (p * passSteps route) v₀)
-  one-pass-reads p h = step-on p h (reached p (omega arith)) .reads
-
-  pub one-pass : (p : ℕ) → p < length (route .passes) → (y : ℕ) → y < records g
-      → recordOf (g .r) (areaOf (suc p) (moves route (suc p * passSteps route) v₀)) y ≡ recordOf (g .r) (areaOf p (moves route (p * passSteps route) v₀)) (sourceOf g (passAt route p) y)
-  one-pass p h y hy =
-      same-record (g .r) (areaOf (suc p) (moves route (suc p * passSteps route) v₀)) (areaOf p (moves route (p * passSteps route) v₀)) (records g) y (sourceOf g (passAt route p) y)
-      (reached (suc p) h .here-long) (reached p (omega arith) .here-long) hy (source-in g (passAt route p) (runs p h) y hy)
-      (λ j hj. ap (λ (t : Bool). getD (areaBy t (moves route (suc p * passSteps route) v₀)) (y * g .r + j) 0) (even-suc p) ∙ step-on p h (reached p (omega arith)) .bytes y j hy hj)
-
-  -- the same the other way: record x goes to the pass's target of x
-  pub one-pass-target : (p : ℕ) → p < length (route .passes) → (x : ℕ) → x < records g
-      → recordOf (g .r) (areaOf (suc p) (moves route (suc p * passSteps route) v₀)) (target (passAt route p .rows) (passAt route p .complement) x) ≡ recordOf (g .r) (areaOf p (moves route (p * passSteps route) v₀)) x
-  one-pass-target p h x hx =
-      one-pass p h (target (passAt route p .rows) (passAt route p .complement) x) (target-lt g (passAt route p) (runs p h) x)
-      ∙ ap (recordOf (g .r) (areaOf p (moves route (p * passSteps route) v₀))) (source-target (g .n) (passAt route p .rows) (passAt route p .complement) x (runs p h .regular) hx)
-
   -- ALL PASSES. The area of the pass count holds, at the place that the passes give, the record that began at x in area 0
   pub all-passes : (x : ℕ) → x < records g → recordOf (g .r) (areaOf (length (route .passes)) (moves route (total route) v₀)) (performed (route .passes) x) ≡ recordOf (g .r) (v₀ .area0) x
   unfolding total

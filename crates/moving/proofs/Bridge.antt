@@ -4,7 +4,7 @@ use mathlib.Core.Logic.{⊎-elim}
 use mathlib.Core.Bool.{Bool, cond, false, true}
 use mathlib.Core.List.{List, map}
 use Prim.Native.Nat.{_%_, _*_, _+_, _-_, _/_, _<_, _^_, _≤_, suc, ℕ}
-use native.Mathlib.Nat.{add-mul, add-zero, div-add-mod', div-div-eq-div-mul, div-lt-iff-lt-mul, le-div-iff-mul-le, le-of-eq, le-trans, lt-of-lt-of-le, mod-eq-of-lt, mod-lt, mul-assoc, mul-le-mul-right, suc-mul}
+use native.Mathlib.Nat.{add-mul, add-zero, div-add-mod', div-div-eq-div-mul, div-lt-iff-lt-mul, le-div-iff-mul-le, lt-of-lt-of-le, mod-eq-of-lt, mod-lt, mul-assoc, suc-mul}
 use native.Mathlib.Omega.{arith}
 use borrow.Author.Tests.{eq-eqb, eqb-true, le-ltb, lt-ltb, ne-eqb}
 use lib.Arith.{digits-div, digits-lt}
@@ -12,12 +12,12 @@ use lib.Bits.{bitXor, xor-block, xor-lt, xor-shifted}
 use lib.Dec.{eqb, ltb}
 use lib.Pow.{pow-mono, pow-pos}
 use lib.ListN.{getD, length, take}
-use Rattle.algebra.proofs.Search.{and-l, and-r}
+use Rattle.algebra.proofs.Search.{and-l, and-r, le-or-lt}
 use Rattle.algebra.specs.Matrix.{apply, columns, inverse, target}
 use Rattle.algebra.specs.Vector.{comb, units}
 use Rattle.bank.specs.Geometry.{Allowed, block, blockAt, driveAt, drives, loadAt, loads, memory, records, stripeAt, stripes}
 use Rattle.bank.specs.declared.Geometry.{Geometry}
-use Rattle.moving.proofs.Bytes.{each-ext, lt-or-ge, record-of}
+use Rattle.moving.proofs.Bytes.{each-ext, record-of, share}
 use Rattle.moving.proofs.Drives.{block-place, block-test, first-lt, target-block-in}
 use Rattle.moving.proofs.Low.{block-drive, on-load, place-block, place-drive, place-form, place-lt}
 use Rattle.moving.proofs.Numbers.{pow-split, stripe-pos}
@@ -26,10 +26,6 @@ use Rattle.moving.specs.Bytes.{copied, laid, landed, within}
 use Rattle.moving.specs.Step.{readFrom, readTakes, sourceOf, writeFrom, writeTakes}
 use Rattle.planning.specs.Running.{PassRuns}
 use Rattle.planning.specs.Pass.{Pass}
-
--- one of n shares of k bytes
-share : (t n k : ℕ) → t < n → t * k + k ≤ n * k
-share t n k h = le-trans (le-of-eq (sym (suc-mul t k))) (mul-le-mul-right k h)
 
 -- ---- a read is one run of bytes
 
@@ -62,12 +58,7 @@ module _ (g : Geometry) (ok : Allowed g) (load t : ℕ) (area mem : List ℕ) (l
           ≡ cond (ltb i (t * stripeBytes g)) x (cond (ltb i (t * stripeBytes g + stripeBytes g)) (getD area (load * memory g * g .r + t * stripeBytes g + (i - t * stripeBytes g)) 0) x)
       at i b x =
           ⊎-elim
-          (λ (h : i < t * stripeBytes g).
-          rw (lt-ltb i (t * stripeBytes g) h, ne-eqb (stripeAt g (i / g .r)) t (λ e. omega (arith, div-lt-iff-lt-mul bytes-pos .1 h, stripe-byte i b))))
           (λ (h : t * stripeBytes g ≤ i). ⊎-elim
-          (λ (l : i < t * stripeBytes g + stripeBytes g).
-          rw (le-ltb i (t * stripeBytes g) h, lt-ltb i (t * stripeBytes g + stripeBytes g) l, eq-eqb (stripeAt g (i / g .r)) t (stripe-byte i b ∙ in-run i h l))
-          (ap (λ (k : ℕ). getD area k 0) (at-byte i ∙ omega arith)))
           (λ (l : t * stripeBytes g + stripeBytes g ≤ i).
           rw (
             le-ltb i (t * stripeBytes g) h,
@@ -75,8 +66,13 @@ module _ (g : Geometry) (ok : Allowed g) (load t : ℕ) (area mem : List ℕ) (l
             ne-eqb (stripeAt g (i / g .r)) t
                 (λ e. omega (arith, le-div-iff-mul-le {k = stripeBytes g} {x = suc t} {y = i} bytes-pos .1 (subst (λ (k : ℕ). k ≤ i) (sym (suc-mul t (stripeBytes g))) l), stripe-byte i b)),
           ))
-          (lt-or-ge i (t * stripeBytes g + stripeBytes g)))
-          (lt-or-ge i (t * stripeBytes g))
+          (λ (l : i < t * stripeBytes g + stripeBytes g).
+          rw (le-ltb i (t * stripeBytes g) h, lt-ltb i (t * stripeBytes g + stripeBytes g) l, eq-eqb (stripeAt g (i / g .r)) t (stripe-byte i b ∙ in-run i h l))
+          (ap (λ (k : ℕ). getD area k 0) (at-byte i ∙ omega arith)))
+          (le-or-lt (t * stripeBytes g + stripeBytes g) i))
+          (λ (h : i < t * stripeBytes g).
+          rw (lt-ltb i (t * stripeBytes g) h, ne-eqb (stripeAt g (i / g .r)) t (λ e. omega (arith, div-lt-iff-lt-mul bytes-pos .1 h, stripe-byte i b))))
+          (le-or-lt (t * stripeBytes g) i)
         where
           in-run : (i : ℕ) → t * stripeBytes g ≤ i → i < t * stripeBytes g + stripeBytes g → i / stripeBytes g ≡ t
           in-run i h l = ap (λ (k : ℕ). k / stripeBytes g) (omega arith) ∙ digits-div t {m = stripeBytes g} {r = i - t * stripeBytes g} (omega arith)

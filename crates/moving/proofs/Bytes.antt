@@ -1,19 +1,17 @@
 -- What are the bytes and records of a buffer after a move? Assumes nothing.
 use mathlib.Core.Path.{_∙_, _≡_, ap, refl, subst, sym}
-use mathlib.Core.Logic.{_⊎_, inl, inr, ⊎-elim}
 use mathlib.Core.Bool.{Bool, cond, false, true}
 use mathlib.Core.List.{List, [], _∷_}
-use Prim.Native.Nat.{_%_, _*_, _+_, _/_, _<_, _≤_, suc, suc-le-suc, zero, zero-le, ℕ}
+use Prim.Native.Nat.{_%_, _*_, _+_, _/_, _<_, _≤_, suc, zero, ℕ}
 use native.Mathlib.Nat.{div-lt-iff-lt-mul, le-of-eq, le-of-suc-le-suc, le-trans, mul-le-mul-right, not-suc-le-zero, suc-mul, zero-add}
 use native.Mathlib.Omega.{arith}
 use lib.ListN.{drop, getD, length, length-drop, length-take}
 use lib.Seq.{ext-getD, getD-drop, getD-take}
 use Rattle.moving.specs.Bytes.{copied, each, eachFrom, recordOf}
 
-pub lt-or-ge : (i a : ℕ) → (i < a) ⊎ (a ≤ i)
-lt-or-ge i zero = inr zero-le
-lt-or-ge zero (suc a) = inl (suc-le-suc zero-le)
-lt-or-ge (suc i) (suc a) = ⊎-elim (λ h. inl (suc-le-suc h)) (λ h. inr (suc-le-suc h)) (lt-or-ge i a)
+-- one of n shares of k bytes
+pub share : (t n k : ℕ) → t < n → t * k + k ≤ n * k
+share t n k h = le-trans (le-of-eq (sym (suc-mul t k))) (mul-le-mul-right k h)
 
 -- ---- each
 
@@ -83,7 +81,7 @@ module _ (chosen : ℕ → Bool) (from : ℕ → ℕ) (r : ℕ) (src dst : List 
 -- ---- a record's bytes: record y < N of a buffer of N·r bytes, byte j < r of it
 
 pub byte-in : (y N r j : ℕ) → y < N → j < r → y * r + j < N * r
-byte-in y N r j hy hj = omega (arith, le-trans (le-of-eq (sym (suc-mul y r))) (mul-le-mul-right r hy))
+byte-in y N r j hy hj = omega (arith, share y N r hy)
 
 pub record-of : (i N r : ℕ) → 0 < r → i < N * r → i / r < N
 record-of i N r h l = div-lt-iff-lt-mul h .1 l
@@ -97,7 +95,4 @@ same-record r l k N y x el ek hy hx h =
     getD-take r (drop (y * r) l) i 0 q ∙ getD-drop (y * r) l i 0 ∙ h i q ∙ sym (getD-take r (drop (x * r) k) i 0 q ∙ getD-drop (x * r) k i 0))
   where
     long : (l : List ℕ) (y : ℕ) → length l ≡ N * r → y < N → length (recordOf r l y) ≡ r
-    long l y e h = simp (length-take, length-drop) (omega (arith, share y h, e))
-      where
-        share : (y : ℕ) → y < N → y * r + r ≤ N * r
-        share y h = le-trans (le-of-eq (sym (suc-mul y r))) (mul-le-mul-right r h)
+    long l y e h = simp (length-take, length-drop) (omega (arith, share y N r h, e))

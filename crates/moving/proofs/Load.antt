@@ -12,10 +12,11 @@ use lib.Dec.{eqb, ltb}
 use lib.Pow.{pow-pos}
 use lib.ListN.{getD, length}
 use lib.Seq.{ext-getD}
+use Rattle.algebra.proofs.Search.{le-or-lt}
 use Rattle.bank.specs.Geometry.{Allowed, loadAt, memory, stripeAt, stripes}
 use Rattle.bank.specs.declared.Geometry.{Geometry}
 use Rattle.moving.proofs.Again.{area-memory, area-other, area-same, memory-area}
-use Rattle.moving.proofs.Bytes.{byte-in, getD-chosen, getD-copied, getD-left, length-copied, lt-or-ge}
+use Rattle.moving.proofs.Bytes.{byte-in, getD-chosen, getD-copied, getD-left, length-copied}
 use Rattle.moving.proofs.Numbers.{load-is, stripe-lt}
 use Rattle.moving.specs.Bytes.{copied}
 use Rattle.moving.specs.Step.{Buffers, areaBy, areaOf, even, readFrom, readMove, readTakes, sourceOf, writeFrom, writeMove, writeTakes}
@@ -32,12 +33,12 @@ by-eq a b P y n = go (eqb a b) refl
 
 ltb-suc : (a w : ℕ) → (a ≡ w → ⊥) → ltb a w ≡ ltb a (suc w)
 ltb-suc a w n =
-    ⊎-elim (λ (h : a < w). lt-ltb a w h ∙ sym (lt-ltb a (suc w) (omega arith)))
-    (λ (h : w ≤ a). le-ltb a w h ∙ sym (le-ltb a (suc w) (strict h)))
-    (lt-or-ge a w)
+    ⊎-elim (λ (h : w ≤ a). le-ltb a w h ∙ sym (le-ltb a (suc w) (strict h)))
+    (λ (h : a < w). lt-ltb a w h ∙ sym (lt-ltb a (suc w) (omega arith)))
+    (le-or-lt w a)
   where
     strict : w ≤ a → suc w ≤ a
-    strict h = ⊎-elim (λ (l : a < suc w). absurd (n (omega arith))) (λ (l : suc w ≤ a). l) (lt-or-ge a (suc w))
+    strict h = ⊎-elim (λ (l : suc w ≤ a). l) (λ (l : a < suc w). absurd (n (omega arith))) (le-or-lt (suc w) a)
 
 both-false : (a b c d : ℕ) → (a ≡ b → c ≡ d → ⊥) → eqb a b && eqb c d ≡ false
 both-false a b c d n = go (eqb a b) refl
@@ -126,7 +127,7 @@ module _ (route : Route) (ok : Allowed (route .geometry)) (p : ℕ) (A T : List 
       mem = copied chosen from (g .r) (areaOf p v) (v .memory)
 
       below : (a : ℕ) → (a ≡ u → ⊥) → a < suc u → a < u
-      below a n q = ⊎-elim (λ (h : a < u). h) (λ (h : u ≤ a). absurd (n (omega arith))) (lt-or-ge a u)
+      below a n q = ⊎-elim (λ (h : u ≤ a). absurd (n (omega arith))) (λ (h : a < u). h) (le-or-lt u a)
 
   -- ---- a write
 

@@ -6,7 +6,7 @@ use native.Mathlib.Nat.{zero-mul, suc-mul}
 use lib.Bits.{bitXor, xor-lt}
 use lib.ListN.{length, length-take, length-drop}
 use Rattle.mover.proofs.Filled.{filled, filled-all, filled-none, filled-turn, length-filled}
-use Rattle.mover.proofs.Parts.{share}
+use Rattle.moving.proofs.Bytes.{share}
 use Rattle.mover.proofs.Places.{place-next, place-zero}
 use Rattle.mover.specs.Places.{flips, placeBy}
 use Rattle.mover.proofs.bytes.fill_block.Statement.{statement}

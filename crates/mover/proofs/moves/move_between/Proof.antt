@@ -1,5 +1,4 @@
 -- `mover::moves::move_between` meets its contract: a read leaves the area written, a write leaves memory. Assumes nothing.
-use mathlib.Core.Path.{_∙_}
 use Rattle.mover.proofs.Sides.{reads-memory, reads-to, writes-memory, writes-to}
 use borrow.Author.Needs.{needs}
 use Rattle.mover.proofs.moves.move_between.Statement.{statement}
@@ -15,9 +14,7 @@ same-length : tie.Need-same-length
 same-length c = search needs
 
 returns : tie.Need-returns
-returns c =
-    let s = c .before .before .before .before .before .before .before .before in
-    (reads-to (s .args .t) (s .args .at) (s .args .from .now) (s .args .to .now) (s .args .memory .now) (c .before .before .before .before .if1 .taken), c .before .before .read-step .ensures ∙ reads-memory (s .args .t) (s .args .at) (s .args .from .now) (s .args .to .now) (s .args .memory .now) (c .before .before .before .before .if1 .taken))
+returns c = (search (needs, reads-to), search (needs, reads-memory))
 
 same-length-2 : tie.Need-same-length-2
 same-length-2 c = search needs
@@ -26,9 +23,7 @@ same-length-3 : tie.Need-same-length-3
 same-length-3 c = search needs
 
 returns-2 : tie.Need-returns-2
-returns-2 c =
-    let s = c .before .before .before .before .before .before .before .before .before in
-    (c .before .before .write-step .ensures ∙ writes-to (s .args .t) (s .args .at) (s .args .from .now) (s .args .to .now) (s .args .memory .now) (c .before .before .before .before .before .if1 .left), writes-memory (s .args .t) (s .args .at) (s .args .from .now) (s .args .to .now) (s .args .memory .now) (c .before .before .before .before .before .if1 .left))
+returns-2 c = (search (needs, writes-to), search (needs, writes-memory))
 
 pub move-between-spec : {M : Type 1} → statement M
 move-between-spec =

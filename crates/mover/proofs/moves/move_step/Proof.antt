@@ -1,9 +1,9 @@
 -- `mover::moves::move_step` meets its contract: the side that is read goes by the pass. Assumes nothing.
-use mathlib.Core.Path.{ap, _∙_}
-use Rattle.mover.proofs.Sides.{even-move, even-ready, odd-move, odd-ready}
-use Rattle.mover.specs.Moving.{memoryAfter, toAfter}
+use mathlib.Core.Bool.{true, false}
+use Prim.Native.Nat.{_%_}
+use Rattle.mover.proofs.Sides.{side-move, side-ready}
 use Rattle.mover.specs.Promise.{buffersOf}
-use Rattle.mover.specs.declared.turns.Turn.{Turn}
+use borrow.Author.Tests.{eq-eqb, ne-eqb}
 use borrow.Author.Needs.{needs}
 use Rattle.mover.proofs.moves.move_step.Statement.{statement}
 use Rattle.mover.proofs.moves.move_step.Tie as tie
@@ -14,12 +14,14 @@ turn-of-requires c κs = search needs
 move-between-requires : tie.Need-move-between-requires
 move-between-requires c κs =
     let s = c .before .before .before .before .before .before .before .before .before in
-    rw (c .before .before .before .before .before .turn-of .ensures) (even-ready (s .args .t) (s .args .s .0) (buffersOf (s .args .area0 .now) (s .args .area1 .now) (s .args .memory .now)) (s .pre))
+    let at = c .before .before .before .before .before .turn-of in
+    side-ready (s .args .t) (s .args .s .0) (buffersOf (s .args .area0 .now) (s .args .area1 .now) (s .args .memory .now)) true (at .result) (at .ensures) (s .pre)
 
 move-between-requires-2 : tie.Need-move-between-requires-2
 move-between-requires-2 c κs =
     let s = c .before .before .before .before .before .before .before .before .before in
-    rw (c .before .before .before .before .before .turn-of .ensures) (odd-ready (s .args .t) (s .args .s .0) (buffersOf (s .args .area0 .now) (s .args .area1 .now) (s .args .memory .now)) (s .pre))
+    let at = c .before .before .before .before .before .turn-of in
+    side-ready (s .args .t) (s .args .s .0) (buffersOf (s .args .area0 .now) (s .args .area1 .now) (s .args .memory .now)) false (at .result) (at .ensures) (s .pre)
 
 same-length : tie.Need-same-length
 same-length c = search needs
@@ -33,10 +35,9 @@ same-length-3 c = search needs
 returns : tie.Need-returns
 returns c =
     let s = c .before .before .before .before .before .before .before .before .before .before .before .before .before .before in
+    let at = c .before .before .before .before .before .before .before .before .before .before .turn-of in
     let w = c .before .before .before .before .move-between in
-    even-move (s .args .t) (s .args .s .0) (buffersOf (s .args .area0 .now) (s .args .area1 .now) (s .args .memory .now)) (w .last .1 .0) (w .last .1 .1 .0) (c .before .before .before .before .before .before .before .before .if1 .taken)
-    (w .ensures .0 ∙ ap (λ (at : Turn). toAfter (s .args .t) at (s .args .area1 .now) (s .args .memory .now)) (c .before .before .before .before .before .before .before .before .before .before .turn-of .ensures))
-    (w .ensures .1 ∙ ap (λ (at : Turn). memoryAfter (s .args .t) at (s .args .area0 .now) (s .args .memory .now)) (c .before .before .before .before .before .before .before .before .before .before .turn-of .ensures))
+    side-move (s .args .t) (s .args .s .0) (buffersOf (s .args .area0 .now) (s .args .area1 .now) (s .args .memory .now)) true (at .result) (at .ensures) (eq-eqb (s .args .t .pass % 2) 0 (c .before .before .before .before .before .before .before .before .if1 .taken)) (w .last .1 .0) (w .last .1 .1 .0) (w .ensures .0) (w .ensures .1)
 
 same-length-4 : tie.Need-same-length-4
 same-length-4 c = search needs
@@ -50,10 +51,9 @@ same-length-6 c = search needs
 returns-2 : tie.Need-returns-2
 returns-2 c =
     let s = c .before .before .before .before .before .before .before .before .before .before .before .before .before .before in
+    let at = c .before .before .before .before .before .before .before .before .before .before .turn-of in
     let w = c .before .before .before .before .move-between2 in
-    odd-move (s .args .t) (s .args .s .0) (buffersOf (s .args .area0 .now) (s .args .area1 .now) (s .args .memory .now)) (w .last .1 .0) (w .last .1 .1 .0) (c .before .before .before .before .before .before .before .before .if1 .left)
-    (w .ensures .0 ∙ ap (λ (at : Turn). toAfter (s .args .t) at (s .args .area0 .now) (s .args .memory .now)) (c .before .before .before .before .before .before .before .before .before .before .turn-of .ensures))
-    (w .ensures .1 ∙ ap (λ (at : Turn). memoryAfter (s .args .t) at (s .args .area1 .now) (s .args .memory .now)) (c .before .before .before .before .before .before .before .before .before .before .turn-of .ensures))
+    side-move (s .args .t) (s .args .s .0) (buffersOf (s .args .area0 .now) (s .args .area1 .now) (s .args .memory .now)) false (at .result) (at .ensures) (ne-eqb (s .args .t .pass % 2) 0 (c .before .before .before .before .before .before .before .before .if1 .left)) (w .last .1 .0) (w .last .1 .1 .0) (w .ensures .0) (w .ensures .1)
 
 pub move-step-spec : {M : Type 1} → statement M
 move-step-spec =

@@ -5,7 +5,8 @@ use native.Mathlib.Omega.{arith}
 use native.Mathlib.Nat.{add-mul, mul-le-mul-left, suc-mul, zero-mul}
 use lib.ListN.{length}
 use Rattle.moving.specs.Bytes.{laid}
-use Rattle.mover.proofs.Parts.{laid-join, laid-none, length-laid, share}
+use Rattle.moving.proofs.Bytes.{share}
+use Rattle.mover.proofs.Parts.{laid-join, laid-none, length-laid}
 use Rattle.mover.proofs.moves.read_drives.Statement.{statement}
 use Rattle.mover.proofs.moves.read_drives.Tie as tie
 

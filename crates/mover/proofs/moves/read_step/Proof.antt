@@ -31,8 +31,8 @@ power-requires-3 c κs = search needs
 mul-t12 : tie.Need-mul-t12
 mul-t12 c = let s = c .before .before .before .before .before .before .before in record { fits = rw (c .power3 .ensures) (omega (arith, first-fits (s .args .g) (s .args .load) (s .args .turn) (s .args .area .now) (s .args .memory .now) (s .pre))) }
 
-add-t14 : tie.Need-add-t14
-add-t14 c = let s = c .before .before .before .before .before .before .before in record { fits = rw (c .power3 .ensures, c .before .before .before .before .power .ensures) (first-fits (s .args .g) (s .args .load) (s .args .turn) (s .args .area .now) (s .args .memory .now) (s .pre)) }
+add-t13 : tie.Need-add-t13
+add-t13 c = let s = c .before .before .before .before .before .before .before in record { fits = rw (c .power3 .ensures, c .before .before .before .before .power .ensures) (first-fits (s .args .g) (s .args .load) (s .args .turn) (s .args .area .now) (s .args .memory .now) (s .pre)) }
 
 mul-at : tie.Need-mul-at
 mul-at c = let s = c .before .before .before .before .before .before .before in record { fits = rw (c .before .before .before .before .power .ensures, c .before .before .before .power2 .ensures) (omega (arith, read-memory (s .args .g) (s .args .load) (s .args .turn) (s .args .area .now) (s .args .memory .now) (s .pre), s .good)) }
@@ -63,7 +63,7 @@ read-step-spec =
     sub-power
     power-requires-3
     mul-t12
-    add-t14
+    add-t13
     mul-at
     read-drives-requires
     same-length

@@ -29,8 +29,8 @@ returns c =
 total-steps-requires : tie.Need-total-steps-requires
 total-steps-requires c κs = search needs
 
-sub-least : tie.Need-sub-least
-sub-least c =
+sub-left : tie.Need-sub-left
+sub-left c =
     let s = c .before .before .before .before .before .before .before .before in
     let z = sym (c .before .before .before .ready-number .ensures ∙ run-number (s .args .plan) (s .args .state) (s .args .allowance) (buffersOf (s .args .area0 .now) (s .args .area1 .now) (s .args .memory .now))) ∙ c .before .before .if1 .left in
     omega (arith, c .before .total-steps .ensures, run-total (s .args .plan) (s .args .state) (s .args .allowance) (buffersOf (s .args .area0 .now) (s .args .area1 .now) (s .args .memory .now)) z)
@@ -42,8 +42,8 @@ run-steps-requires : tie.Need-run-steps-requires
 run-steps-requires c κs =
     let s = c .before .before .before .before .before .before .before .before .before .before .before .before in
     let z = sym (c .before .before .before .before .before .before .before .ready-number .ensures ∙ run-number (s .args .plan) (s .args .state) (s .args .allowance) (buffersOf (s .args .area0 .now) (s .args .area1 .now) (s .args .memory .now))) ∙ c .before .before .before .before .before .before .if1 .left in
-    let t = run-total (s .args .plan) (s .args .state) (s .args .allowance) (buffersOf (s .args .area0 .now) (s .args .area1 .now) (s .args .memory .now)) z in
-    run-steps-ready (s .args .plan) (s .args .state) (s .args .allowance) (buffersOf (s .args .area0 .now) (s .args .area1 .now) (s .args .memory .now)) (rows-long s) z (c .before .before .before .least .result) (c .before .before .before .least .ensures ∙ ap (λ (n : ℕ). min (s .args .allowance) (n - s .args .state .next .0)) (c .before .before .before .before .before .total-steps .ensures ∙ t .0))
+    run-steps-ready (s .args .plan) (s .args .state) (s .args .allowance) (buffersOf (s .args .area0 .now) (s .args .area1 .now) (s .args .memory .now)) (rows-long s) z (c .before .before .before .least .result)
+    (omega (arith, c .before .before .before .least .ensures, c .before .before .before .before .before .total-steps .ensures, run-total (s .args .plan) (s .args .state) (s .args .allowance) (buffersOf (s .args .area0 .now) (s .args .area1 .now) (s .args .memory .now)) z))
 
 advanced-requires : tie.Need-advanced-requires
 advanced-requires c κs = search needs
@@ -76,7 +76,7 @@ run-spec =
     kept-requires
     returns
     total-steps-requires
-    sub-least
+    sub-left
     least-requires
     run-steps-requires
     advanced-requires

@@ -50,7 +50,7 @@ is-busy-requires : tie.Need-is-busy-requires Inv-loop μ-loop
 is-busy-requires c κs = let k = c .before .loop .inv in (k .within, k .wide)
 
 round-requires : tie.Need-round-requires Inv-loop μ-loop
-round-requires c κs = let k = c .before .before .before .before .loop .inv in (k .below, k .within, k .wide, k .sound)
+round-requires c κs = let k = c .before .before .before .before .loop .inv in (k .below, k .within, k .wide, k .ready)
 
 rows-after-requires : tie.Need-rows-after-requires Inv-loop μ-loop
 rows-after-requires c κs = c .before .before .before .before .before .before .before .before .loop .inv .wide
