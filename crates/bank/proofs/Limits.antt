@@ -1,7 +1,7 @@
 -- What does a geometry inside the limits give a proof? Assumes nothing.
 use mathlib.Core.Path.{_≡_, refl}
 use mathlib.Core.Bool.{Bool, true, false, _&&_}
-use Prim.Native.Nat.{_+_, _≤_, _<_}
+use Prim.Native.Nat.{_+_}
 use lib.Dec.{ltb, leb}
 use Rattle.algebra.proofs.Search.{and-l, and-r}
 use borrow.Author.Tests.{ltb-true, leb-true, lt-ltb, le-leb}

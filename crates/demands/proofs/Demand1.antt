@@ -1,5 +1,5 @@
 -- Demand 1 is proved. Assumes nothing.
-use mathlib.Core.Path.{_≡_, refl, sym, ap, _∙_}
+use mathlib.Core.Path.{_≡_, refl, sym, _∙_}
 use mathlib.Core.Bool.{Bool, true, false, cond}
 use mathlib.Core.List.{List, [], _∷_, _++_}
 use Prim.Native.Nat.{ℕ, zero, suc}
@@ -12,11 +12,9 @@ use Rattle.order.specs.declared.Order.{Order}
 use Rattle.order.specs.Order.{matrixOf, judgement}
 use Rattle.order.specs.Address.{questionNumber, targetOf, foundFor}
 use Rattle.order.proofs.Main.{one-answer}
-use Rattle.planning.specs.declared.Plan.{Plan}
 use Rattle.planning.specs.Stored.{emptyPlan}
 use Rattle.plan.specs.Answer.{plannedFor}
 use Rattle.moving.proofs.Main.{refused-keeps, refused-run}
-use Rattle.mover.specs.declared.run.Ran.{Ran}
 use Rattle.text.specs.Listing.{listing, roomAfter, written}
 use Rattle.text.specs.Reading.{Reads, noOrder}
 use Rattle.text.specs.Reading.Reads.{no-first-line, outside, no-rest, singular, taken}

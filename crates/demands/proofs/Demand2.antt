@@ -1,10 +1,7 @@
 -- Demand 2 is proved. Assumes nothing.
 use Rattle.algebra.specs.Matrix.{target}
-use Rattle.algebra.proofs.Singular.{Clash}
-use Rattle.order.specs.declared.Order.{Order}
-use Rattle.order.specs.Order.{matrixOf}
 use Rattle.order.proofs.Main.{three→shared-target, shared-target→three, sends, comes}
-use Rattle.demands.specs.Demand2.{Demand2, SharedTarget, OnlySource}
+use Rattle.demands.specs.Demand2.{Demand2}
 
 pub demand2 : Demand2
 unfolding target

@@ -19,12 +19,11 @@ use Rattle.planning.specs.Running.{Runs}
 use Rattle.planning.proofs.Made.{made-length, made-performs, made-runs, made-route}
 use Rattle.planning.proofs.Stored.{route-length}
 use Rattle.plan.specs.declared.make.Planned.{Planned}
-use Rattle.plan.specs.Answer.{plannedFor}
 use Rattle.plan.proofs.Answered.{planned-taken}
 use Rattle.moving.specs.Bytes.{recordOf}
 use Rattle.moving.specs.Step.{Buffers, areaOf, fits}
 use Rattle.moving.specs.Call.{fresh}
-use Rattle.moving.specs.Line.{Call, line, straysRefused}
+use Rattle.moving.specs.Line.{Call, afterCalls, straysRefused}
 use Rattle.moving.proofs.Main.{any-line, delivered, line-advance, no-two-blocks, others-stay}
 use Rattle.demands.specs.Demand2.{sentTo}
 use Rattle.demands.specs.Demand3.{Delivery, Demand3}
@@ -57,7 +56,7 @@ module _ (order : Order) (room : length (order .rows) ≡ ROWS) (taken : judgeme
       record {
         within = any-line plan v cs strays .within;
         counted = line-advance plan (fresh v) cs ∙ zero-add _;
-        delivers = λ ends x h. subst (λ (p : ℕ). recordOf (order .geometry .r) (areaOf p (line plan (fresh v) cs .buffers)) (sentTo order x) ≡ recordOf (order .geometry .r) (v .area0) x) (route-length plan)
+        delivers = λ ends x h. subst (λ (p : ℕ). recordOf (order .geometry .r) (areaOf p (afterCalls plan (fresh v) cs .buffers)) (sentTo order x) ≡ recordOf (order .geometry .r) (v .area0) x) (route-length plan)
             (delivered plan plan-runs (matrixOf order) (order .complement) plan-performs v fitting cs strays ends .holds x h);
         one-block = no-two-blocks plan plan-runs;
         others-stay = others-stay (routeOf plan);

@@ -1,21 +1,20 @@
 -- The demands speak of something: proved. Assumes nothing.
 use mathlib.Core.Path.{_≡_, refl, sym, ap, _∙_, subst}
-use mathlib.Core.Bool.{Bool, true, false, not, _&&_, _||_}
+use mathlib.Core.Bool.{Bool, true, false, not, _&&_}
 use mathlib.Core.Logic.{⊎-elim}
 use mathlib.Core.List.{_++_}
 use Prim.Native.Nat.{ℕ, _+_, _-_, _^_, _≤_, _<_}
 use native.Mathlib.Omega.{arith}
 use borrow.Author.Tests.{eq-eqb, le-leb, lt-leb}
 use lib.Dec.{eqb, leb}
-use lib.ListN.{length, getD, take, replicate, length-append, length-replicate, List·getD-append}
+use lib.ListN.{length, getD, take, replicate, List·getD-append}
 use lib.Pow.{pow-lt, pow-pos}
 use lib.Seq.{take-append-seam, getD-append-add}
 use Rattle.bank.specs.Limits.{ROWS}
 use Rattle.bank.specs.declared.Geometry.{Geometry}
 use Rattle.bank.specs.Geometry.{inLimits, records}
 use Rattle.bank.proofs.Limits.{limits→allowed}
-use Rattle.algebra.specs.Search.{some}
-use Rattle.algebra.specs.Matrix.{apply, identity, kills, singular}
+use Rattle.algebra.specs.Matrix.{identity, kills, singular}
 use Rattle.algebra.proofs.Search.{none-intro, le-or-lt}
 use Rattle.algebra.proofs.Lists.{getD-zeros}
 use Rattle.algebra.proofs.Linear.{apply-identity}

@@ -17,7 +17,7 @@ use Rattle.planning.specs.Stored.{routeOf}
 use Rattle.plan.specs.Answer.{plannedFor}
 use Rattle.moving.specs.Step.{Buffers, fits}
 use Rattle.moving.specs.Call.{fresh}
-use Rattle.moving.specs.Line.{Call, inTurn, line, straysRefused}
+use Rattle.moving.specs.Line.{Call, inTurn, afterCalls, straysRefused}
 
 -- the order that moves nothing
 abbrev pub stillOrder : Geometry → Order
@@ -29,7 +29,7 @@ steadyLine plan more = inTurn more (total (routeOf plan)) 0
 
 -- a line that reaches the end of a plan, its stray calls refused
 pub record Reaches (plan : Plan) (v : Buffers) (cs : List Call) : Type 0 where
-  pub ends : line plan (fresh v) cs .next ≡ total (routeOf plan)
+  pub ends : afterCalls plan (fresh v) cs .next ≡ total (routeOf plan)
   pub strays : straysRefused plan (fresh v) cs ≡ true
 
 pub record Possible : Type 0 where

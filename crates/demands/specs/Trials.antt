@@ -5,7 +5,6 @@ use Prim.Native.Nat.{ℕ, zero, suc, _-_}
 use lib.Dec.{eqb}
 use lib.ListN.{length, replicate}
 use Rattle.bank.specs.Limits.{ROWS}
-use Rattle.bank.specs.declared.Geometry.{Geometry}
 use Rattle.order.specs.declared.Order.{Order}
 use Rattle.order.specs.Order.{matrixOf}
 use Rattle.order.specs.Address.{targetOf}

@@ -7,7 +7,7 @@ ghost use Rattle.algebra.specs.Vector.{parity, bit, times, comb};
 use bank::ROWS;
 
 // The parity of x.
-pub fn parity(x: u32) -> u32
+pub(crate) fn parity(x: u32) -> u32
     ensures { λ r. ⌜ r ≡ parity x ⌝ }
 {
     u32::count_ones(x) % 2

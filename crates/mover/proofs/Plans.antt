@@ -25,7 +25,7 @@ use Rattle.planning.specs.declared.Plan.{Plan}
 use Rattle.mover.proofs.Columns.{tables-prepared}
 use Rattle.mover.specs.Moving.{MoveReady, moveBy, movesBy, tablesOf}
 use Rattle.mover.specs.Tables.{Prepared, TablesReady, passWith, tablesFor}
-use Rattle.mover.specs.Turns.{bare}
+use Rattle.mover.specs.Turns.{emptyRoute}
 use Rattle.mover.specs.declared.tables.Tables.{Tables}
 
 module _ (plan : Plan) (k : Runs (routeOf plan)) (p : ℕ) (h : p < plan .count) where
@@ -80,9 +80,9 @@ same-pass route s i h =
     ap (λ (n : ℕ). n / passSteps route) (omega (arith, div-add-mod' s (passSteps route))) ∙ digits-div (s / passSteps route) {m = passSteps route} {r = s % passSteps route + i} h
 
 -- the steps of a pass, for any route of the geometry
-pub bare-pass : (plan : Plan) (s : ℕ) → passOf (bare (plan .geometry)) s ≡ passOf (routeOf plan) s
+pub pass-alone : (plan : Plan) (s : ℕ) → passOf (emptyRoute (plan .geometry)) s ≡ passOf (routeOf plan) s
 unfolding passOf passSteps phases routeOf
-bare-pass plan s = refl
+pass-alone plan s = refl
 
 -- one step more
 pub moves-next : (t : Tables) (s k : ℕ) (v w : Buffers) → w ≡ movesBy t s k v → moveBy t (s + k) w ≡ movesBy t s (k + 1) v
@@ -106,9 +106,9 @@ total-fits route ok few =
     omega (arith, total-small (records (route .geometry)) (block (route .geometry) * drives (route .geometry)) (length (route .passes)) (records-small (route .geometry) ok) few)
 
 -- the steps of a pass, as code counts them
-pub bare-steps : (plan : Plan) → passSteps (bare (plan .geometry)) ≡ passSteps (routeOf plan)
+pub steps-alone : (plan : Plan) → passSteps (emptyRoute (plan .geometry)) ≡ passSteps (routeOf plan)
 unfolding passSteps phases routeOf
-bare-steps plan = refl
+steps-alone plan = refl
 
 module _ (plan : Plan) (k : Runs (routeOf plan)) where
   pub plan-allowed : Allowed (plan .geometry)

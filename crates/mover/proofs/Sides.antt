@@ -11,7 +11,7 @@ use Rattle.moving.specs.Bytes.{copied}
 use Rattle.moving.specs.Step.{Buffers, Fits, areaBy, byPhase, even, readFrom, readMove, readTakes, withAreaBy, withMemory, writeFrom, writeMove, writeTakes}
 use Rattle.mover.specs.Moving.{BetweenReady, MoveReady, memoryAfter, moveBy, toAfter}
 use Rattle.mover.specs.Tables.{passFor}
-use Rattle.mover.specs.Turns.{bare, turnAt}
+use Rattle.mover.specs.Turns.{emptyRoute, turnAt}
 use Rattle.mover.specs.declared.tables.Tables.{Tables}
 use Rattle.mover.specs.declared.turns.Turn.{Turn}
 
@@ -85,8 +85,8 @@ module _ (t : Tables) (s : ℕ) (v : Buffers) where
     side-ready k =
         record {
           prepared = k .prepared;
-          load-in = rw turn (load-of-lt (bare (t .geometry)) (k .prepared .ready .allowed) s);
-          turn-in = rw turn (turn-lt (bare (t .geometry)) (k .prepared .ready .allowed) s);
+          load-in = rw turn (load-of-lt (emptyRoute (t .geometry)) (k .prepared .ready .allowed) s);
+          turn-in = rw turn (turn-lt (emptyRoute (t .geometry)) (k .prepared .ready .allowed) s);
           from-long = area-long (t .geometry) v b (k .fitting);
           to-long = area-long (t .geometry) v (not b) (k .fitting);
           memory-long = k .fitting .memory-long;

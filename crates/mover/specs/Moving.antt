@@ -13,7 +13,7 @@ use Rattle.moving.specs.Bytes.{copied}
 use Rattle.moving.specs.Number.{loadOf, phaseOf, turnOf}
 use Rattle.moving.specs.Step.{Buffers, Fits, byPhase, readFrom, readMove, readTakes, writeFrom, writeMove, writeTakes}
 use Rattle.mover.specs.Tables.{Prepared, passFor, tablesFor}
-use Rattle.mover.specs.Turns.{bare}
+use Rattle.mover.specs.Turns.{emptyRoute}
 use Rattle.mover.specs.declared.tables.Tables.{Tables}
 use Rattle.mover.specs.declared.turns.Turn.{Turn}
 
@@ -39,9 +39,9 @@ pub record BetweenReady (t : Tables) (at : Turn) (from to mem : List ℕ) : Type
 
 unfoldable pub moveBy : Tables → ℕ → Buffers → Buffers
 moveBy t s v =
-    byPhase (phaseOf (bare (t .geometry)) s)
-    (readMove (t .geometry) (t .pass) (loadOf (bare (t .geometry)) s) (turnOf (bare (t .geometry)) s) v)
-    (writeMove (t .geometry) (passFor t) (t .pass) (loadOf (bare (t .geometry)) s) (turnOf (bare (t .geometry)) s) v)
+    byPhase (phaseOf (emptyRoute (t .geometry)) s)
+    (readMove (t .geometry) (t .pass) (loadOf (emptyRoute (t .geometry)) s) (turnOf (emptyRoute (t .geometry)) s) v)
+    (writeMove (t .geometry) (passFor t) (t .pass) (loadOf (emptyRoute (t .geometry)) s) (turnOf (emptyRoute (t .geometry)) s) v)
 
 unfoldable pub movesBy : Tables → ℕ → ℕ → Buffers → Buffers
 movesBy t s zero v = v

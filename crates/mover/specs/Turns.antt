@@ -7,9 +7,9 @@ use Rattle.moving.specs.Number.{loadOf, phaseOf, turnOf}
 use Rattle.mover.specs.declared.turns.Turn.{Turn}
 
 -- a route of no passes
-abbrev pub bare : Geometry → Route
-bare g = record { geometry = g; passes = [] }
+abbrev pub emptyRoute : Geometry → Route
+emptyRoute g = record { geometry = g; passes = [] }
 
 -- the load, the phase and the turn of step s
 abbrev pub turnAt : Geometry → ℕ → Turn
-turnAt g s = record { load = loadOf (bare g) s; phase = phaseOf (bare g) s; turn = turnOf (bare g) s }
+turnAt g s = record { load = loadOf (emptyRoute g) s; phase = phaseOf (emptyRoute g) s; turn = turnOf (emptyRoute g) s }

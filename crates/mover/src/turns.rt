@@ -3,7 +3,7 @@ ghost use mathlib.Core.Path.{_≡_};
 ghost use Rattle.bank.specs.Geometry.{Allowed, stripes};
 ghost use Rattle.planning.specs.Pass.{passSteps};
 ghost use Rattle.moving.specs.Number.{passOf};
-ghost use Rattle.mover.specs.Turns.{bare, turnAt};
+ghost use Rattle.mover.specs.Turns.{emptyRoute, turnAt};
 use bank::Geometry;
 use bank::Step;
 use bank::power;
@@ -26,7 +26,7 @@ fn stripes(g: Geometry) -> u64
 // The steps of a pass.
 pub(crate) fn pass_steps(g: Geometry) -> u64
     requires { ⌜ Allowed g ⌝ }
-    ensures { λ r. ⌜ r ≡ passSteps (bare g) ⌝ }
+    ensures { λ r. ⌜ r ≡ passSteps (emptyRoute g) ⌝ }
 {
     2 * power(g.n) / (power(g.b) * power(g.d))
 }
@@ -34,7 +34,7 @@ pub(crate) fn pass_steps(g: Geometry) -> u64
 // The pass of a step.
 pub(crate) fn pass_of(g: Geometry, s: Step) -> u64
     requires { ⌜ Allowed g ⌝ }
-    ensures { λ r. ⌜ r ≡ passOf (bare g) (s .0) ⌝ }
+    ensures { λ r. ⌜ r ≡ passOf (emptyRoute g) (s .0) ⌝ }
 {
     s.0 / pass_steps(g)
 }

@@ -13,7 +13,7 @@ use Rattle.moving.proofs.Calls.{Ready, again-number, by-run, by-step, n
 use Rattle.moving.proofs.Fits.{moves-fits}
 use Rattle.moving.specs.Call.{Moment, buffersBy, fresh, movesFrom, nextBy, ran, runCount, runNumber, stepNumber, stepped}
 use Rattle.moving.specs.Line.Call.{asks, runs, straysRun, straysStep}
-use Rattle.moving.specs.Line.{Call, Stray, call, inTurn, line, lineSteps, newSteps, refuses, repeated, returned, strayed, straysRefused}
+use Rattle.moving.specs.Line.{Call, Stray, call, inTurn, afterCalls, lineSteps, newSteps, refuses, repeated, returned, strayed, straysRefused}
 use Rattle.moving.specs.Step.{Buffers, Fits, move, moves}
 use Rattle.planning.specs.Pass.{Route, total}
 use Rattle.planning.specs.Stored.{routeOf}
@@ -88,8 +88,8 @@ module _ (plan : Plan) (v : Buffers) where
   kept-stray moment stray after e k =
       record { within = k .within; once = ap (λ (w : Moment). stray .back (moment .buffers) (w .buffers)) e ∙ stray .unchanged (moment .buffers) ∙ k .once }
 
-  pub kept-line : (moment : Moment) (cs : List Call) → straysRefused plan moment cs ≡ true → Kept plan v moment → Kept plan v (line plan moment cs)
-  unfolding line straysRefused call
+  pub kept-line : (moment : Moment) (cs : List Call) → straysRefused plan moment cs ≡ true → Kept plan v moment → Kept plan v (afterCalls plan moment cs)
+  unfolding afterCalls straysRefused call
   kept-line moment [] e k = k
   kept-line moment (asks s ∷ cs) e k = kept-line (stepped plan moment s) cs e (kept-step moment s k)
   kept-line moment (runs q ∷ cs) e k = kept-line (ran plan moment q) cs e (kept-run moment q k)
@@ -106,7 +106,7 @@ module _ (plan : Plan) (v : Buffers) where
       (refused-run (stray .plan) (strayed moment stray) q (refuses-not-done (runNumber (stray .plan) (strayed moment stray)) (and-l number (straysRefused plan after cs) e))) k)
 
   -- ANY LINE from a fresh state whose stray calls are refused
-  pub any-line : (cs : List Call) → straysRefused plan (fresh v) cs ≡ true → Kept plan v (line plan (fresh v) cs)
+  pub any-line : (cs : List Call) → straysRefused plan (fresh v) cs ≡ true → Kept plan v (afterCalls plan (fresh v) cs)
   any-line cs e = kept-line (fresh v) cs e kept-fresh
 
   -- and the line's calls stay ready
@@ -131,8 +131,8 @@ call-advance plan moment (runs q) = refl
 call-advance plan moment (straysStep stray s) = sym (add-zero (moment .next))
 call-advance plan moment (straysRun stray q) = sym (add-zero (moment .next))
 
-pub line-advance : (plan : Plan) (moment : Moment) (cs : List Call) → line plan moment cs .next ≡ moment .next + lineSteps plan moment cs
-unfolding line lineSteps
+pub line-advance : (plan : Plan) (moment : Moment) (cs : List Call) → afterCalls plan moment cs .next ≡ moment .next + lineSteps plan moment cs
+unfolding afterCalls lineSteps
 line-advance plan moment [] = sym (add-zero (moment .next))
 line-advance plan moment (c ∷ cs) =
     line-advance plan (call plan moment c) cs ∙ ap (λ (k : ℕ). k + lineSteps plan (call plan moment c) cs) (call-advance plan moment c)
@@ -162,26 +162,26 @@ module _ (plan : Plan) where
         here = ap (λ (w : Moment). w .next) (step-nine plan moment j (again-number plan moment j (k .ready) h (add-one j ∙ sym (k .here)))) ∙ k .here;
       }
 
-  after-repeats : (i j : ℕ) (rest : List Call) (end : ℕ) → j < total (routeOf plan) → ((moment : Moment) → At (suc j) moment → line plan moment rest .next ≡ end)
-      → (moment : Moment) → At (suc j) moment → line plan moment (repeated i j rest) .next ≡ end
-  unfolding repeated line
+  after-repeats : (i j : ℕ) (rest : List Call) (end : ℕ) → j < total (routeOf plan) → ((moment : Moment) → At (suc j) moment → afterCalls plan moment rest .next ≡ end)
+      → (moment : Moment) → At (suc j) moment → afterCalls plan moment (repeated i j rest) .next ≡ end
+  unfolding repeated afterCalls
   after-repeats zero j rest end h f moment k = f moment k
   after-repeats (suc i) j rest end h f moment k = after-repeats i j rest end h f (call plan moment (asks j)) (at-again moment j h k)
 
-  in-turn-from : (more : ℕ → ℕ) (k j : ℕ) → j + k ≤ total (routeOf plan) → (moment : Moment) → At j moment → line plan moment (inTurn more k j) .next ≡ j + k
-  unfolding inTurn line
+  in-turn-from : (more : ℕ → ℕ) (k j : ℕ) → j + k ≤ total (routeOf plan) → (moment : Moment) → At j moment → afterCalls plan moment (inTurn more k j) .next ≡ j + k
+  unfolding inTurn afterCalls
   in-turn-from more zero j h moment a = a .here ∙ sym (add-zero j)
   in-turn-from more (suc k) j h moment a =
       after-repeats (more j) j (inTurn more k (suc j)) (j + suc k) (omega arith) (λ moment b. in-turn-from more k (suc j) (omega arith) moment b ∙ omega arith) (call plan moment (asks j))
       (at-next moment j (omega arith) a)
 
   -- the line that asks the plan's steps in turn ends with next = total
-  pub in-turn : (more : ℕ → ℕ) (v : Buffers) → Ready plan (fresh v) → line plan (fresh v) (inTurn more (total (routeOf plan)) 0) .next ≡ total (routeOf plan)
+  pub in-turn : (more : ℕ → ℕ) (v : Buffers) → Ready plan (fresh v) → afterCalls plan (fresh v) (inTurn more (total (routeOf plan)) 0) .next ≡ total (routeOf plan)
   in-turn more v r = in-turn-from more (total (routeOf plan)) 0 (omega arith) (fresh v) (record { ready = r; here = refl }) ∙ omega arith
 
   -- and so does one run with enough allowance
-  pub run-through : (q : ℕ) (v : Buffers) → total (routeOf plan) ≤ q → Ready plan (fresh v) → line plan (fresh v) (runs q ∷ []) .next ≡ total (routeOf plan)
-  unfolding line call ran
+  pub run-through : (q : ℕ) (v : Buffers) → total (routeOf plan) ≤ q → Ready plan (fresh v) → afterCalls plan (fresh v) (runs q ∷ []) .next ≡ total (routeOf plan)
+  unfolding afterCalls call ran
   run-through q v h r = omega (arith, run-count plan (fresh v) q (ready-run plan (fresh v) r))
 
   -- the first has no stray call
@@ -197,15 +197,15 @@ module _ (plan : Plan) where
 
   -- ---- a run is its steps in turn, each asked once
 
-  ran-in-turn : (k : ℕ) (moment : Moment) → Ready plan moment → k ≤ total (routeOf plan) - moment .next → ran plan moment k ≡ line plan moment (inTurn (λ j. 0) k (moment .next))
-  unfolding inTurn repeated line call
+  ran-in-turn : (k : ℕ) (moment : Moment) → Ready plan moment → k ≤ total (routeOf plan) - moment .next → ran plan moment k ≡ afterCalls plan moment (inTurn (λ j. 0) k (moment .next))
+  unfolding inTurn repeated afterCalls call
   ran-in-turn zero moment r h = run-none plan moment
   ran-in-turn (suc k) moment r h =
       ap (ran plan moment) (omega arith)
       ∙ sym (run-again plan moment 1 k)
       ∙ ap (λ (w : Moment). ran plan w k) (run-one plan moment r (omega arith))
       ∙ ran-in-turn k after (step-ready plan moment (moment .next) r) (omega (arith, one-on))
-      ∙ ap (λ (j : ℕ). line plan after (inTurn (λ i. 0) k j)) one-on
+      ∙ ap (λ (j : ℕ). afterCalls plan after (inTurn (λ i. 0) k j)) one-on
     where
       after : Moment
       after = stepped plan moment (moment .next)
@@ -213,10 +213,10 @@ module _ (plan : Plan) where
       one-on : after .next ≡ suc (moment .next)
       one-on = ap (λ (w : Moment). w .next) (step-done plan moment (moment .next) (next-number plan moment (moment .next) r (omega arith) refl)) ∙ add-one (moment .next)
 
-  pub run-in-turn : (moment : Moment) (q : ℕ) → ran plan moment q ≡ line plan moment (inTurn (λ j. 0) (runCount plan moment q) (moment .next))
-  unfolding inTurn line
+  pub run-in-turn : (moment : Moment) (q : ℕ) → ran plan moment q ≡ afterCalls plan moment (inTurn (λ j. 0) (runCount plan moment q) (moment .next))
+  unfolding inTurn afterCalls
   run-in-turn moment q =
-      by-run plan moment (ran plan moment q ≡ line plan moment (inTurn (λ j. 0) (runCount plan moment q) (moment .next)))
+      by-run plan moment (ran plan moment q ≡ afterCalls plan moment (inTurn (λ j. 0) (runCount plan moment q) (moment .next)))
       (λ e. run-same plan moment q (runCount plan moment q) (run-count plan moment q e ∙ sym (run-count plan moment (runCount plan moment q) e ∙ omega (arith, run-count plan moment q e)))
       ∙ ran-in-turn (runCount plan moment q) moment (run-ready plan moment e) (omega (arith, run-count plan moment q e)))
-      (λ e. refused-run plan moment q e ∙ ap (λ (k : ℕ). line plan moment (inTurn (λ j. 0) k (moment .next))) (sym (refused-count plan moment q e)))
+      (λ e. refused-run plan moment q e ∙ ap (λ (k : ℕ). afterCalls plan moment (inTurn (λ j. 0) k (moment .next))) (sym (refused-count plan moment q e)))

@@ -19,7 +19,7 @@ use Rattle.moving.specs.Blocks.{stepBlock}
 use Rattle.moving.specs.Bytes.{recordOf}
 use Rattle.moving.specs.Call.{Moment, fresh, ran, runCount, runNumber, stepNumber, stepped}
 use Rattle.moving.specs.Line.Call.{runs}
-use Rattle.moving.specs.Line.{Call, inTurn, line, lineSteps, refuses, straysRefused}
+use Rattle.moving.specs.Line.{Call, inTurn, afterCalls, lineSteps, refuses, straysRefused}
 use Rattle.moving.specs.Step.{Buffers, areaBy, areaOf, fits, move, moves, touches}
 use Rattle.planning.specs.Pass.{Route, passSteps, performed, phases, total}
 use Rattle.planning.specs.Running.{Runs, canRun}
@@ -43,8 +43,8 @@ repeat plan moment asked e = (calls.repeat-number plan moment asked e, calls.rep
 
 -- and wherever a line is answered 9
 pub again : (plan : Plan) (v : Buffers) (cs : List Call) → straysRefused plan (fresh v) cs ≡ true → (asked : ℕ)
-    → stepNumber plan (line plan (fresh v) cs) asked ≡ 9 → stepped plan (line plan (fresh v) cs) asked ≡ line plan (fresh v) cs
-again plan v cs h asked e = lines.kept-again plan v (line plan (fresh v) cs) asked (lines.any-line plan v cs h) e
+    → stepNumber plan (afterCalls plan (fresh v) cs) asked ≡ 9 → stepped plan (afterCalls plan (fresh v) cs) asked ≡ afterCalls plan (fresh v) cs
+again plan v cs h asked e = lines.kept-again plan v (afterCalls plan (fresh v) cs) asked (lines.any-line plan v cs h) e
 
 -- ---- a run
 
@@ -54,7 +54,7 @@ pub run-count : (plan : Plan) (moment : Moment) (q : ℕ) → runNumber plan mom
 run-count plan moment q e = (calls.run-count plan moment q e, calls.run-next plan moment q)
 
 -- they are the steps in turn, each asked once
-pub run-in-turn : (plan : Plan) (moment : Moment) (q : ℕ) → ran plan moment q ≡ line plan moment (inTurn (λ j. 0) (runCount plan moment q) (moment .next))
+pub run-in-turn : (plan : Plan) (moment : Moment) (q : ℕ) → ran plan moment q ≡ afterCalls plan moment (inTurn (λ j. 0) (runCount plan moment q) (moment .next))
 run-in-turn = lines.run-in-turn
 
 -- two runs are one
@@ -64,31 +64,31 @@ run-again = calls.run-again
 -- ---- a line
 
 -- after any line from a fresh state whose stray calls are refused, the buffers are those of the steps below next, each done once
-pub any-line : (plan : Plan) (v : Buffers) (cs : List Call) → straysRefused plan (fresh v) cs ≡ true → Kept plan v (line plan (fresh v) cs)
+pub any-line : (plan : Plan) (v : Buffers) (cs : List Call) → straysRefused plan (fresh v) cs ≡ true → Kept plan v (afterCalls plan (fresh v) cs)
 any-line = lines.any-line
 
 -- no call of such a line is refused with 7 or 4, where the first is not
 pub line-ready : (plan : Plan) (v : Buffers) (cs : List Call) → canRun plan 0 ≡ true → fits (plan .geometry) v ≡ true → straysRefused plan (fresh v) cs ≡ true
-    → runNumber plan (line plan (fresh v) cs) ≡ 0
+    → runNumber plan (afterCalls plan (fresh v) cs) ≡ 0
 line-ready plan v cs e f h =
-    calls.ready-run plan (line plan (fresh v) cs) (lines.kept-ready plan v (line plan (fresh v) cs) (any-line plan v cs h) (calls.can→ready plan (fresh v) e f))
+    calls.ready-run plan (afterCalls plan (fresh v) cs) (lines.kept-ready plan v (afterCalls plan (fresh v) cs) (any-line plan v cs h) (calls.can→ready plan (fresh v) e f))
 
 -- and next has advanced by the line's steps, repeats left out
-pub line-advance : (plan : Plan) (moment : Moment) (cs : List Call) → line plan moment cs .next ≡ moment .next + lineSteps plan moment cs
+pub line-advance : (plan : Plan) (moment : Moment) (cs : List Call) → afterCalls plan moment cs .next ≡ moment .next + lineSteps plan moment cs
 line-advance = lines.line-advance
 
 -- what a line has delivered, for the order (rows, c), when it began with v
 pub record Delivered (plan : Plan) (rows : List ℕ) (c : ℕ) (v : Buffers) (cs : List Call) : Type 0 where
   -- the area of the pass count holds, at Ax xor c, the very record that began at x in area 0
   pub holds : (x : ℕ) → x < records (plan .geometry)
-      → recordOf (plan .geometry .r) (areaOf (length (routeOf plan .passes)) (line plan (fresh v) cs .buffers)) (target rows c x) ≡ recordOf (plan .geometry .r) (v .area0) x
+      → recordOf (plan .geometry .r) (areaOf (length (routeOf plan .passes)) (afterCalls plan (fresh v) cs .buffers)) (target rows c x) ≡ recordOf (plan .geometry .r) (v .area0) x
   -- repeats left out, the steps are 2N/(BD) for each pass
   pub count : lineSteps plan (fresh v) cs ≡ 2 * records (plan .geometry) / (2 ^ plan .geometry .b * 2 ^ plan .geometry .d) * length (routeOf plan .passes)
 
 module _ (plan : Plan) (can : Runs (routeOf plan)) (rows : List ℕ) (c : ℕ)
     (does : (x : ℕ) → x < records (plan .geometry) → performed (routeOf plan .passes) x ≡ target rows c x) (v : Buffers) (fitting : fits (plan .geometry) v ≡ true) where
   -- the plan performs the order, the buffers fit, and the line is at the end
-  pub delivered : (cs : List Call) → straysRefused plan (fresh v) cs ≡ true → line plan (fresh v) cs .next ≡ total (routeOf plan) → Delivered plan rows c v cs
+  pub delivered : (cs : List Call) → straysRefused plan (fresh v) cs ≡ true → afterCalls plan (fresh v) cs .next ≡ total (routeOf plan) → Delivered plan rows c v cs
   unfolding routeOf total passSteps phases
   delivered cs refused ends =
       record {

@@ -1,5 +1,4 @@
 -- Where do a load's records land, in a form that code computes? Assumes nothing.
-use mathlib.Core.List.{List}
 use Prim.Native.Nat.{ℕ, _+_, _-_, _*_, _%_, _^_}
 use lib.ListN.{take}
 use Rattle.bank.specs.declared.Geometry.{Geometry}

@@ -1,6 +1,5 @@
 -- What does a call for a step, or for a run of steps, answer and leave? Assumes nothing.
-use mathlib.Core.Bool.{Bool, true, false, not, cond, _||_}
-use mathlib.Core.List.{List, [], _∷_}
+use mathlib.Core.Bool.{not, cond, _||_}
 use Prim.Native.Nat.{ℕ, zero, suc, _+_, _-_, min}
 use lib.Dec.{eqb, leb}
 use Rattle.bank.specs.Checks.{refuse}

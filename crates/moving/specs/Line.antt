@@ -39,9 +39,9 @@ call plan moment (straysStep stray s) = returned moment stray (stepped (stray .p
 call plan moment (straysRun stray q) = returned moment stray (ran (stray .plan) (strayed moment stray) q)
 
 -- a line's calls, one after the other
-unfoldable pub line : Plan → Moment → List Call → Moment
-line plan moment [] = moment
-line plan moment (c ∷ cs) = line plan (call plan moment c) cs
+unfoldable pub afterCalls : Plan → Moment → List Call → Moment
+afterCalls plan moment [] = moment
+afterCalls plan moment (c ∷ cs) = afterCalls plan (call plan moment c) cs
 
 -- a number that refuses: neither done nor done again
 abbrev pub refuses : ℕ → Bool

@@ -1,22 +1,20 @@
 -- What does an order that is taken give a proof? Assumes nothing.
 use mathlib.Core.Path.{_≡_, refl, sym, ap, _∙_, subst}
-use mathlib.Core.Bool.{Bool, true, false, not, _&&_, _||_, true≢false}
-use mathlib.Core.Logic.{⊎-elim}
-use Prim.Native.Nat.{ℕ, _≤_, _<_, _^_, min}
+use mathlib.Core.Bool.{Bool, true, false, not, _&&_, _||_}
+use Prim.Native.Nat.{ℕ, _≤_, _<_}
 use native.Mathlib.Omega.{arith}
-use borrow.Author.Tests.{eqb-true, eqb-false, le-leb, leb-false, not-false}
+use borrow.Author.Tests.{eqb-true, le-leb, leb-false, not-false}
 use lib.Dec.{eqb, leb}
-use lib.ListN.{getD, length, take, length-take}
+use lib.ListN.{getD, length, length-take}
 use lib.Seq.{getD-take}
 use Rattle.bank.specs.Limits.{ROWS}
-use Rattle.bank.specs.Geometry.{Allowed, inLimits, records}
+use Rattle.bank.specs.Geometry.{inLimits, records}
 use Rattle.bank.proofs.Limits.{limits→allowed}
-use Rattle.algebra.specs.Search.{some}
 use Rattle.algebra.specs.Matrix.{singular}
 use Rattle.algebra.proofs.Search.{none-elim, or-l, or-r}
 use Rattle.order.specs.Order.{matrixOf, strayRow, strayComplement, spareRow, badForm, judgement}
 use Rattle.order.specs.declared.Order.{Order}
-use Rattle.order.proofs.Judged.{outside-limits, formless, singular-three, regular-none}
+use Rattle.order.proofs.Judged.{outside-limits, formless, singular-three}
 
 -- an order that is taken, condition by condition
 pub record Accepted (order : Order) : Type 0 where
@@ -32,9 +30,6 @@ judgement→accepted order e = go (inLimits (order .geometry)) (badForm order) (
     go true true s p q r = absurd (omega (arith, sym (formless order p q) ∙ e))
     go true false true p q r = absurd (omega (arith, sym (singular-three order p q r) ∙ e))
     go true false false p q r = record { inside = p; form = q; regular = r }
-
-pub accepted→judgement : (order : Order) → Accepted order → judgement order ≡ 0
-accepted→judgement order k = regular-none order (k .inside) (k .form) (k .regular)
 
 -- ---- good form, place by place
 module _ (order : Order) (form : badForm order ≡ false) where

@@ -2,7 +2,7 @@
 use mathlib.Core.Path.{_≡_, refl, sym, ap, ap₂, subst, _∙_}
 use mathlib.Core.Logic.{⊎-elim}
 use mathlib.Core.Bool.{Bool, true, false}
-use mathlib.Core.List.{List, [], _∷_}
+use mathlib.Core.List.{[], _∷_}
 use Prim.Native.Nat.{ℕ, zero, suc, _%_, _≤_, _<_, _^_}
 use native.Mathlib.Nat.{lt-of-lt-of-le, mod-eq-of-lt, mod-lt}
 use native.Mathlib.Omega.{arith}
@@ -23,7 +23,6 @@ use Rattle.order.proofs.Judged.{or-else-stops, form-none, judgement-for
 use Rattle.order.proofs.Accepted.{judgement→accepted, complement-below}
 use Rattle.order.specs.declared.Order.{Order}
 use Rattle.order.specs.declared.address.Target.{Target}
-use Rattle.order.specs.declared.address.Source.{Source}
 use Rattle.order.specs.declared.address.Source.the-variants.{From, Refused}
 
 -- an address of n bits is a word

@@ -2,7 +2,7 @@
 use mathlib.Core.Path.{_≡_, refl, sym, ap, _∙_}
 use mathlib.Core.Bool.{Bool, true, false}
 use mathlib.Core.List.{List, [], _∷_}
-use Prim.Native.Nat.{ℕ, _^_, _≤_, _<_}
+use Prim.Native.Nat.{ℕ, _≤_, _<_}
 use native.Mathlib.Nat.{lt-of-lt-of-le}
 use native.Mathlib.Omega.{arith}
 use lib.Bits.{bitXor, xor-lt}
@@ -15,14 +15,13 @@ use Rattle.algebra.proofs.Linear.{apply-lt}
 use Rattle.algebra.proofs.Singular.{Clash, clash→singular, singular→clash, regular-inj, source-target}
 use Rattle.algebra.proofs.Inverse.{source-lt, target-source-is}
 use Rattle.order.specs.Order.{matrixOf, badForm, judgement}
-use Rattle.order.specs.Address.{questionNumber, targetOf, Found, meaningOf, foundFor}
+use Rattle.order.specs.Address.{questionNumber, targetOf, meaningOf, foundFor}
 use Rattle.order.specs.declared.Order.{Order}
-use Rattle.order.specs.declared.address.Target.{Target}
 use Rattle.order.specs.declared.address.Source.{Source}
 use Rattle.order.specs.declared.address.Source.the-variants.{From, Refused}
 use Rattle.order.proofs.Judged.{singular-three, regular-none}
 use Rattle.order.proofs.Accepted.{Accepted, judgement→accepted, complement-below, matrix-length}
-use Rattle.order.proofs.Asked.{number-order, number-ten, number-none, none-means, target-given, source-given}
+use Rattle.order.proofs.Asked.{number-order, number-ten, number-none, target-given}
 
 -- ---- an order in good form is singular exactly when two different addresses below N share a target
 module _ (order : Order) (inside : inLimits (order .geometry) ≡ true) (form : badForm order ≡ false) where

@@ -18,7 +18,7 @@ use Rattle.bank.proofs.Limits.{limits→allowed}
 use Rattle.algebra.specs.Search.{some}
 use Rattle.algebra.specs.Matrix.{singular, spills}
 use Rattle.planning.specs.Pass.{Pass, passAt, passSteps, phases, total}
-use Rattle.planning.specs.Running.{canRun, countInLimits, singularPass, sound, spare, spareComplement, spareRow, spillingPass, strayComplement, strayRow}
+use Rattle.planning.specs.Running.{canRun, countInLimits, singularPass, sound, meantZero, spareComplement, spareRow, spillingPass, strayComplement, strayRow}
 use Rattle.planning.specs.Stored.{routeOf, storedPass}
 use Rattle.planning.specs.declared.Plan.{Plan}
 use Rattle.planning.proofs.Running.{sound→checked}
@@ -49,7 +49,7 @@ module _ (plan : Plan) where
 
   pub spare-rows-asked : spareRow plan
       ≡ some (λ q. (leb (plan .count) (q / ROWS) || leb (plan .geometry .n) (q % ROWS)) && not (eqb (getD (plan .rows) q 0) 0)) (PASSES * ROWS)
-  unfolding spareRow spare
+  unfolding spareRow meantZero
   spare-rows-asked = refl
 
   pub spare-complements-asked : spareComplement plan ≡ some (λ p. leb (plan .count) p && not (eqb (getD (plan .complements) p 0) 0)) PASSES

@@ -17,7 +17,7 @@ use Rattle.algebra.specs.Matrix.{singular, spills}
 use Rattle.algebra.specs.Search.{some}
 use Rattle.planning.proofs.Stored.{route-at, route-back, route-length, stored-complement, stored-place, stored-row, taken-at, taken-length}
 use Rattle.planning.specs.Pass.{Pass, Route, passAt, passIn, total}
-use Rattle.planning.specs.Running.{Runs, canRun, countInLimits, singularPass, sound, spare, spareComplement, spareRow, spillingPass, strayComplement, strayRow}
+use Rattle.planning.specs.Running.{Runs, canRun, countInLimits, singularPass, sound, meantZero, spareComplement, spareRow, spillingPass, strayComplement, strayRow}
 use Rattle.planning.specs.Stored.{planOf, routeOf, storedComplements, storedPass, storedRows}
 use Rattle.planning.specs.declared.Plan.{Plan}
 
@@ -209,7 +209,7 @@ module _ (route : Route) (k : Runs route) where
         (λ p hp. none-intro (λ i. leb (records g) (getD (storedRows PASSES ROWS ps) (p * ROWS + i) 0)) (g .n) (λ i hi. no-stray-row p i hp hi));
     complements-within = unfold planOf strayComplement in
         none-intro (λ p. leb (records g) (getD (storedComplements PASSES ps) p 0)) (length ps) (λ p hp. no-stray-complement p hp);
-    rows-zero = unfold planOf spareRow spare in
+    rows-zero = unfold planOf spareRow meantZero in
         none-intro (λ q. (leb (length ps) (q / ROWS) || leb (g .n) (q % ROWS)) && not (eqb (getD (storedRows PASSES ROWS ps) q 0) 0)) (PASSES * ROWS)
         (λ q h. and-never (leb (length ps) (q / ROWS) || leb (g .n) (q % ROWS)) (not (eqb (getD (storedRows PASSES ROWS ps) q 0) 0)) (no-spare-row q h));
     complements-zero = unfold planOf spareComplement in

@@ -26,12 +26,12 @@ unfoldable pub strayComplement : Plan → Bool
 strayComplement plan = some (λ p. leb (records (plan .geometry)) (getD (plan .complements) p 0)) (plan .count)
 
 -- a place for a row is meant to be zero: its pass isn't used, or its row is n or above
-unfoldable pub spare : Plan → ℕ → Bool
-spare plan q = leb (plan .count) (q / ROWS) || leb (plan .geometry .n) (q % ROWS)
+unfoldable pub meantZero : Plan → ℕ → Bool
+meantZero plan q = leb (plan .count) (q / ROWS) || leb (plan .geometry .n) (q % ROWS)
 
 -- such a place isn't zero
 unfoldable pub spareRow : Plan → Bool
-spareRow plan = some (λ q. spare plan q && not (eqb (getD (plan .rows) q 0) 0)) (PASSES * ROWS)
+spareRow plan = some (λ q. meantZero plan q && not (eqb (getD (plan .rows) q 0) 0)) (PASSES * ROWS)
 
 -- the complement of a pass that isn't used isn't zero
 unfoldable pub spareComplement : Plan → Bool

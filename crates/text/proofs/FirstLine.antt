@@ -10,7 +10,7 @@ use lib.Dec.{ltb, eqb}
 use lib.ListN.{length, getD, drop, length-drop}
 use lib.Seq.{drop-cons, drop-drop, drop-append-seam, getD-drop}
 use Rattle.bank.specs.declared.Geometry.{Geometry}
-use Rattle.text.specs.Lines.{line, decimal}
+use Rattle.text.specs.Lines.{decimal}
 use Rattle.text.specs.OrderText.{firstLine}
 use Rattle.text.specs.Reading.{Begins}
 use Rattle.text.specs.Parsing.{numberAt, ended, fieldAt, then, upToR, upToM, upToD, upToB, firstLineAt}

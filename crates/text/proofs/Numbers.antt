@@ -13,7 +13,7 @@ use lib.ListN.{length, getD, drop, List·getD-eq-default}
 use lib.Seq.{drop-cons, getD-drop}
 use Rattle.algebra.proofs.Search.{le-or-lt}
 use Rattle.text.specs.Lines.{digits, decimal}
-use Rattle.text.specs.Parsing.{digitOf, digitAt, numberAt, ended}
+use Rattle.text.specs.Parsing.{digitOf, digitAt, numberAt}
 use Rattle.text.specs.declared.number.Parsed.the-variants.{Value}
 
 pub ruleset tests = (needs, lt-ltb, le-ltb, le-leb, lt-leb, eq-eqb, ne-eqb)

@@ -5,7 +5,7 @@ use Prim.Native.Nat.{ℕ, suc}
 use lib.Dec.{leb}
 use lib.ListN.{length, drop}
 use Rattle.planning.specs.declared.Plan.{Plan}
-use Rattle.planning.specs.Pass.{Pass, Route, total}
+use Rattle.planning.specs.Pass.{Pass, total}
 use Rattle.planning.specs.Stored.{routeOf}
 use Rattle.planning.specs.Running.{sound}
 use Rattle.plan.specs.Total.{resultArea}

@@ -1,5 +1,5 @@
 -- `matrix::echelon::eliminate` meets its contract. The loop's invariant: e holds the entries after the first j columns. Assumes nothing.
-use mathlib.Core.Path.{_≡_, refl}
+use mathlib.Core.Path.{_≡_}
 use Prim.Native.Nat.{_-_, _≤_}
 use native.Mathlib.Omega.{arith}
 use borrow.Author.Needs.{needs}

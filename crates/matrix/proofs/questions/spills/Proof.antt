@@ -1,6 +1,6 @@
 -- `matrix::questions::spills` meets its contract. The loop's invariant: e holds the entries after the first j columns of the middle rows, and below 2^j
 -- the lower rows send to zero all that the middle rows do. Assumes nothing.
-use mathlib.Core.Path.{_∙_, _≡_, ap, refl, subst, sym}
+use mathlib.Core.Path.{_∙_, _≡_, ap, subst, sym}
 use mathlib.Core.Logic.{⊎-elim}
 use Prim.Native.Nat.{_-_, _≤_, ℕ}
 use native.Mathlib.Omega.{arith}

@@ -8,7 +8,7 @@ use Rattle.moving.specs.Step.{Fits}
 use Rattle.moving.specs.Call.{movesFrom}
 use Rattle.planning.specs.Pass.{passSteps, total}
 use Rattle.planning.specs.Stored.{routeOf}
-use Rattle.mover.proofs.Plans.{bare-steps, from-none, pass-turn, plan-allowed, plan-moves, plan-total, quotient-in, steps-pos}
+use Rattle.mover.proofs.Plans.{steps-alone, from-none, pass-turn, plan-allowed, plan-moves, plan-total, quotient-in, steps-pos}
 use Rattle.mover.specs.Promise.{buffersOf}
 use Rattle.mover.proofs.run.run_steps.Statement.{statement}
 use Rattle.mover.proofs.run.run_steps.Tie as tie
@@ -26,7 +26,7 @@ start c = c .before .before .before .before .before .before
 
 -- the steps of a pass, and that there are some
 each-is : (c : tie.In-loop Inv-loop μ-loop) → c .before .before .pass-steps .result ≡ passSteps (routeOf (start c .args .plan))
-each-is c = c .before .before .pass-steps .ensures ∙ bare-steps (start c .args .plan)
+each-is c = c .before .before .pass-steps .ensures ∙ steps-alone (start c .args .plan)
 
 some : (c : tie.In-loop Inv-loop μ-loop) → 0 < c .before .before .pass-steps .result
 some c = subst (λ (n : ℕ). 0 < n) (sym (each-is c)) (steps-pos (start c .args .plan) (start c .pre .runs))

@@ -1,7 +1,7 @@
 -- `mover::turns::pass_of` meets its contract: passes are of one length. Assumes nothing.
 use Rattle.moving.proofs.Numbers.{pass-pos}
 use Rattle.moving.specs.Number.{passOf}
-use Rattle.mover.specs.Turns.{bare}
+use Rattle.mover.specs.Turns.{emptyRoute}
 use borrow.Author.Needs.{needs}
 use Rattle.mover.proofs.turns.pass_of.Statement.{statement}
 use Rattle.mover.proofs.turns.pass_of.Tie as tie
@@ -10,7 +10,7 @@ pass-steps-requires : tie.Need-pass-steps-requires
 pass-steps-requires c κs = search needs
 
 div-result : tie.Need-div-result
-div-result c = let s = c .before .before in rw (c .before .pass-steps .ensures) (pass-pos (bare (s .args .g)) (s .pre))
+div-result c = let s = c .before .before in rw (c .before .pass-steps .ensures) (pass-pos (emptyRoute (s .args .g)) (s .pre))
 
 returns : tie.Need-returns
 unfolding passOf

@@ -4,7 +4,7 @@ use Rattle.moving.proofs.Numbers.{pass-pos, stripes-pos}
 use Rattle.moving.specs.Number.{loadOf, phaseOf, turnOf}
 use Rattle.planning.specs.Pass.{loadSteps, phases}
 use Rattle.mover.proofs.Sizes.{stripes-small}
-use Rattle.mover.specs.Turns.{bare}
+use Rattle.mover.specs.Turns.{emptyRoute}
 use borrow.Author.Needs.{needs}
 use Rattle.mover.proofs.turns.turn_of.Statement.{statement}
 use Rattle.mover.proofs.turns.turn_of.Tie as tie
@@ -19,7 +19,7 @@ pass-steps-requires : tie.Need-pass-steps-requires
 pass-steps-requires c κs = search needs
 
 rem-rest : tie.Need-rem-rest
-rem-rest c = let s = c .before .before .before in rw (c .before .pass-steps .ensures) (pass-pos (bare (s .args .g)) (s .pre))
+rem-rest c = let s = c .before .before .before in rw (c .before .pass-steps .ensures) (pass-pos (emptyRoute (s .args .g)) (s .pre))
 
 rem-left : tie.Need-rem-left
 rem-left c = let s = c .before .before .before in rw (c .before .before .stripes .ensures) (omega (arith, stripes-pos (s .args .g) (s .pre)))

@@ -1,8 +1,5 @@
 -- `trials::steps::arrived` is safe and ends: every place is tested against the area's length. Assumes nothing.
-use mathlib.Core.Path.{_≡_}
 use Prim.Native.Nat.{_≤_, _-_}
-use native.Mathlib.Omega.{arith}
-use lib.ListN.{length, length-set}
 use borrow.Author.Needs.{needs}
 use Rattle.trials.proofs.steps.arrived.Statement.{statement}
 use Rattle.trials.proofs.steps.arrived.Tie as tie

@@ -1,8 +1,6 @@
 -- `trials::steps::changed` is safe and ends: every index is below the length. Assumes nothing.
-use mathlib.Core.Path.{_≡_}
 use Prim.Native.Nat.{_≤_, _-_}
-use native.Mathlib.Omega.{arith}
-use lib.ListN.{length, length-set}
+use lib.ListN.{length}
 use borrow.Author.Needs.{needs}
 use Rattle.trials.proofs.steps.changed.Statement.{statement}
 use Rattle.trials.proofs.steps.changed.Tie as tie

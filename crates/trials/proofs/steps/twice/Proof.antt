@@ -1,8 +1,7 @@
 -- `trials::steps::twice` is safe and ends: the steps are counted up to the total. Assumes nothing.
 use mathlib.Core.Path.{_≡_}
 use Prim.Native.Nat.{_≤_, _-_}
-use native.Mathlib.Omega.{arith}
-use lib.ListN.{length, length-set}
+use lib.ListN.{length}
 use borrow.Author.Needs.{needs}
 use Rattle.trials.proofs.steps.twice.Statement.{statement}
 use Rattle.trials.proofs.steps.twice.Tie as tie
