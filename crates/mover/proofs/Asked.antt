@@ -20,8 +20,8 @@ use Rattle.planning.specs.Running.{countInLimits, sound}
 use Rattle.planning.specs.Stored.{routeOf}
 use Rattle.planning.specs.declared.Plan.{Plan}
 use Rattle.bank.specs.Geometry.{inLimits}
-use Rattle.mover.proofs.Plans.{total-fits}
-use Rattle.mover.specs.Moving.{StepsReady}
+use Rattle.blocks.proofs.Plans.{total-fits}
+use Rattle.blocks.specs.Moving.{StepsReady}
 use Rattle.mover.specs.Numbers.{readyBy}
 use Rattle.mover.specs.Promise.{RunPromise, StepPromise, caseOf, momentOf, stateAt}
 use Rattle.mover.specs.State.{advancedBy}

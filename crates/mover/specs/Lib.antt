@@ -1,8 +1,4 @@
--- The state, what the calls for steps and runs promise, and what the code between goes by.
+-- The state, what the calls for steps and runs promise, and their numbers by lengths alone.
 pub mod State
 pub mod Promise
-pub mod Places
-pub mod Tables
-pub mod Turns
-pub mod Moving
 pub mod Numbers

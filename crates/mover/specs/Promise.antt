@@ -1,7 +1,6 @@
 -- What do the calls for a step and for a run promise? Their answer and the final bytes of every lent buffer. Assumes nothing.
 use mathlib.Core.Path.{_≡_}
 use mathlib.Core.Bool.{cond}
-use mathlib.Core.List.{List}
 use Prim.Native.Nat.{ℕ}
 use lib.Dec.{eqb}
 use Rattle.planning.specs.declared.Plan.{Plan}
@@ -12,10 +11,7 @@ use Rattle.mover.specs.declared.step.Stepped.{Stepped}
 use Rattle.mover.specs.declared.step.Stepped.the-variants.{Done, Again, Refused}
 use Rattle.mover.specs.declared.run.Ran.{Ran}
 
--- the lent bytes, and with them the state: a moment of the line
-abbrev pub buffersOf : List ℕ → List ℕ → List ℕ → Buffers
-buffersOf area0 area1 memory = record { area0 = area0; area1 = area1; memory = memory }
-
+-- the state and the lent bytes: a moment of the line
 abbrev pub momentOf : State → Buffers → Moment
 momentOf state v = record { next = state .next .0; buffers = v }
 

@@ -18,6 +18,9 @@ pub record Buffers : Type 0 where
   pub area1 : List ℕ
   pub memory : List ℕ
 
+abbrev pub buffersOf : List ℕ → List ℕ → List ℕ → Buffers
+buffersOf area0 area1 memory = record { area0 = area0; area1 = area1; memory = memory }
+
 -- each area is N·R bytes, and memory is M·R
 unfoldable pub fits : Geometry → Buffers → Bool
 fits g v = eqb (length (v .area0)) (records g * g .r) && eqb (length (v .area1)) (records g * g .r) && eqb (length (v .memory)) (memory g * g .r)

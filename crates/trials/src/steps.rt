@@ -155,88 +155,41 @@ pub fn one_write() {
     say::one(b"bytes of memory that are wrong", changed(&memory, 50));
 }
 
-// The numbers of steps in and out of turn.
+// From a fresh state: steps in and out of turn.
+fn first_steps(p: Plan, area0: &mut [u8], area1: &mut [u8], memory: &mut [u8]) -> State {
+    let mut s = State::fresh();
+    s = ask(b"fresh, step 0", p, s, 0, area0, area1, memory);
+    s = ask(b"then step 0", p, s, 0, area0, area1, memory);
+    s = ask(b"then step 2", p, s, 2, area0, area1, memory);
+    ask(b"then step 1", p, s, 1, area0, area1, memory)
+}
+
+// Runs of none, of one, of more than is left, and at the end.
+fn some_runs(p: Plan, from: State, area0: &mut [u8], area1: &mut [u8], memory: &mut [u8]) -> State {
+    let mut s = from;
+    s = go(b"then a run of 0", p, s, 0, area0, area1, memory);
+    s = go(b"then a run of 1", p, s, 1, area0, area1, memory);
+    s = go(b"then a run of 100", p, s, 100, area0, area1, memory);
+    go(b"then a run of 100", p, s, 100, area0, area1, memory)
+}
+
+// At the end: the latest step, the one after it, and an earlier one.
+fn last_steps(p: Plan, from: State, area0: &mut [u8], area1: &mut [u8], memory: &mut [u8]) {
+    let mut s = from;
+    s = ask(b"then step 23", p, s, 23, area0, area1, memory);
+    s = ask(b"then step 24", p, s, 24, area0, area1, memory);
+    ask(b"then step 22", p, s, 22, area0, area1, memory);
+}
+
+// The numbers of steps and runs, from the first step to past the last.
 pub fn in_turn() {
     let p = reversal();
     let mut area0 = [0u8; AREA];
     let mut area1 = [0u8; AREA];
     let mut memory = [0u8; MEMORY];
-    let mut s = State::fresh();
-    s = ask(
-        b"fresh, step 0",
-        p,
-        s,
-        0,
-        &mut area0,
-        &mut area1,
-        &mut memory,
-    );
-    s = ask(b"then step 0", p, s, 0, &mut area0, &mut area1, &mut memory);
-    s = ask(b"then step 2", p, s, 2, &mut area0, &mut area1, &mut memory);
-    s = ask(b"then step 1", p, s, 1, &mut area0, &mut area1, &mut memory);
-    s = go(
-        b"then a run of 0",
-        p,
-        s,
-        0,
-        &mut area0,
-        &mut area1,
-        &mut memory,
-    );
-    s = go(
-        b"then a run of 1",
-        p,
-        s,
-        1,
-        &mut area0,
-        &mut area1,
-        &mut memory,
-    );
-    s = go(
-        b"then a run of 100",
-        p,
-        s,
-        100,
-        &mut area0,
-        &mut area1,
-        &mut memory,
-    );
-    s = go(
-        b"then a run of 100",
-        p,
-        s,
-        100,
-        &mut area0,
-        &mut area1,
-        &mut memory,
-    );
-    s = ask(
-        b"then step 23",
-        p,
-        s,
-        23,
-        &mut area0,
-        &mut area1,
-        &mut memory,
-    );
-    s = ask(
-        b"then step 24",
-        p,
-        s,
-        24,
-        &mut area0,
-        &mut area1,
-        &mut memory,
-    );
-    ask(
-        b"then step 22",
-        p,
-        s,
-        22,
-        &mut area0,
-        &mut area1,
-        &mut memory,
-    );
+    let early = first_steps(p, &mut area0, &mut area1, &mut memory);
+    let late = some_runs(p, early, &mut area0, &mut area1, &mut memory);
+    last_steps(p, late, &mut area0, &mut area1, &mut memory);
 }
 
 // A call with three labelled buffers; then how many bytes of each changed.

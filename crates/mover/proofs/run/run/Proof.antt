@@ -5,7 +5,7 @@ use native.Mathlib.Omega.{arith}
 use lib.ListN.{length}
 use Rattle.bank.specs.Limits.{PASSES, ROWS}
 use Rattle.mover.proofs.Asked.{run-done, run-number, run-refused, run-steps-ready, run-total}
-use Rattle.mover.specs.Promise.{buffersOf}
+use Rattle.moving.specs.Step.{buffersOf}
 use borrow.Author.Needs.{needs}
 use Rattle.mover.proofs.run.run.Statement.{statement}
 use Rattle.mover.proofs.run.run.Tie as tie

@@ -3,9 +3,9 @@ use mathlib.Core.Path.{_≡_, ap, refl, _∙_}
 use Prim.Native.Nat.{ℕ, _-_, _≤_, zero-le}
 use native.Mathlib.Omega.{arith}
 use lib.ListN.{length}
-use Rattle.mover.proofs.Plans.{moves-next, moves-none}
-use Rattle.mover.specs.Moving.{movesBy}
-use Rattle.mover.specs.Promise.{buffersOf}
+use Rattle.blocks.proofs.Plans.{moves-next, moves-none}
+use Rattle.blocks.specs.Moving.{movesBy}
+use Rattle.moving.specs.Step.{buffersOf}
 use Rattle.mover.proofs.run.run_pass.Statement.{statement}
 use Rattle.mover.proofs.run.run_pass.Tie as tie
 

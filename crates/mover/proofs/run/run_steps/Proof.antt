@@ -4,12 +4,11 @@ use Prim.Native.Nat.{ℕ, _+_, _-_, _/_, _%_, _<_, _≤_, zero-le}
 use native.Mathlib.Nat.{mod-lt}
 use native.Mathlib.Omega.{arith}
 use lib.ListN.{length}
-use Rattle.moving.specs.Step.{Fits}
+use Rattle.moving.specs.Step.{Fits, buffersOf}
 use Rattle.moving.specs.Call.{movesFrom}
 use Rattle.planning.specs.Pass.{passSteps, total}
 use Rattle.planning.specs.Stored.{routeOf}
-use Rattle.mover.proofs.Plans.{steps-alone, from-none, pass-turn, plan-allowed, plan-moves, plan-total, quotient-in, steps-pos}
-use Rattle.mover.specs.Promise.{buffersOf}
+use Rattle.blocks.proofs.Plans.{steps-alone, from-none, pass-turn, plan-allowed, plan-moves, plan-total, quotient-in, steps-pos}
 use Rattle.mover.proofs.run.run_steps.Statement.{statement}
 use Rattle.mover.proofs.run.run_steps.Tie as tie
 

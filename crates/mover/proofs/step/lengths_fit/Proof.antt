@@ -2,7 +2,7 @@
 use mathlib.Core.Path.{ap₂, sym, _∙_}
 use Prim.Native.Nat.{ℕ, _*_, _^_}
 use borrow.Author.Tests.{eq-eqb, ne-eqb}
-use Rattle.mover.proofs.Sizes.{area-fits, memory-fits}
+use Rattle.blocks.proofs.Sizes.{area-fits, memory-fits}
 use borrow.Author.Needs.{needs}
 use Rattle.mover.proofs.step.lengths_fit.Statement.{statement}
 use Rattle.mover.proofs.step.lengths_fit.Tie as tie

@@ -2,10 +2,10 @@
 use mathlib.Core.Path.{ap, subst, sym, _∙_}
 use Prim.Native.Nat.{ℕ, _<_}
 use native.Mathlib.Omega.{arith}
-use Rattle.mover.proofs.Plans.{pass-alone, move-same, pass-in, plan-allowed, plan-moves}
-use Rattle.mover.specs.Moving.{moveBy}
-use Rattle.mover.specs.Promise.{buffersOf}
-use Rattle.mover.specs.declared.tables.Tables.{Tables}
+use Rattle.blocks.proofs.Plans.{pass-alone, move-same, pass-in, plan-allowed, plan-moves}
+use Rattle.blocks.specs.Moving.{moveBy}
+use Rattle.moving.specs.Step.{buffersOf}
+use Rattle.blocks.specs.declared.tables.Tables.{Tables}
 use borrow.Author.Needs.{needs}
 use Rattle.mover.proofs.step.move_asked.Statement.{statement}
 use Rattle.mover.proofs.step.move_asked.Tie as tie

@@ -4,7 +4,7 @@ use Prim.Native.Nat.{_*_}
 use lib.ListN.{length}
 use Rattle.bank.specs.Limits.{PASSES, ROWS}
 use Rattle.mover.proofs.Asked.{again-promise, again-ready, done-promise, done-ready, number-is, refused-promise}
-use Rattle.mover.specs.Promise.{buffersOf}
+use Rattle.moving.specs.Step.{buffersOf}
 use borrow.Author.Needs.{needs}
 use Rattle.mover.proofs.step.step.Statement.{statement}
 use Rattle.mover.proofs.step.step.Tie as tie

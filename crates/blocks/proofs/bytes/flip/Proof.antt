@@ -1,0 +1,60 @@
+-- `blocks::bytes::flip` meets its contract: what is summed up, and what the columns ahead still change, is the whole change. Assumes nothing.
+use mathlib.Core.Path.{_≡_, refl, sym, _∙_}
+use Prim.Native.Nat.{_-_}
+use native.Mathlib.Omega.{arith}
+use borrow.Author.Needs.{needs}
+use lib.Bits.{bitXor}
+use lib.ListN.{length, drop}
+use Rattle.blocks.specs.Places.{flips}
+use Rattle.blocks.proofs.Places.{walk-stop, walk-on, walk-end}
+use Rattle.blocks.proofs.bytes.flip.Statement.{statement}
+use Rattle.blocks.proofs.bytes.flip.Tie as tie
+
+abbrev Inv-loop : tie.InvT-loop
+Inv-loop columns k s₀ x₀ j₀ s x j = bitXor s (flips (drop j columns) x) ≡ flips columns k
+
+abbrev μ-loop : tie.MeasureT-loop
+μ-loop columns k s₀ x₀ j₀ s x j = length columns - j
+
+loop-holds : tie.Need-loop-holds Inv-loop μ-loop
+loop-holds c = refl
+
+mul-s : tie.Need-mul-s Inv-loop μ-loop
+mul-s c = search needs
+
+shared-slice-read-s : tie.Need-shared-slice-read-s Inv-loop μ-loop
+shared-slice-read-s c = omega arith
+
+returns : tie.Need-returns Inv-loop μ-loop
+returns c =
+    let l = c .before .before .before .loop in
+    walk-stop (c .before .before .before .before .args .columns .now) (l .s) (l .x) (l .j) (c .before .before .loop-test .taken) (c .if1 .taken) ∙ l .inv
+
+add-j : tie.Need-add-j Inv-loop μ-loop
+add-j c = omega arith
+
+loop-less : tie.Need-loop-less Inv-loop μ-loop
+loop-less c = omega arith
+
+loop-again : tie.Need-loop-again Inv-loop μ-loop
+loop-again c =
+    let l = c .before .before .before .loop in
+    walk-on (c .before .before .before .before .args .columns .now) (l .s) (l .x) (l .j) (c .before .before .loop-test .taken) (c .if1 .left) ∙ l .inv
+
+returns-2 : tie.Need-returns-2 Inv-loop μ-loop
+returns-2 c = sym (walk-end _ _ (c .before .loop .x) _ (c .loop-test .left)) ∙ c .before .loop .inv
+
+pub flip-spec : {M : Type 1} → statement M
+flip-spec =
+    tie.close
+    (tie.spec
+    Inv-loop
+    μ-loop
+    loop-holds
+    mul-s
+    shared-slice-read-s
+    returns
+    add-j
+    loop-less
+    loop-again
+    returns-2)

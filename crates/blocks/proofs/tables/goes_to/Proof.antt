@@ -1,0 +1,31 @@
+-- `blocks::tables::goes_to` meets its contract: rows applied, then the complement. Assumes nothing.
+use mathlib.Core.Path.{ap}
+use Prim.Native.Nat.{ℕ}
+use native.Mathlib.Omega.{arith}
+use lib.Bits.{bitXor, xor-lt}
+use Rattle.algebra.specs.Matrix.{target}
+use Rattle.blocks.proofs.Sizes.{records-fit}
+use borrow.Author.Needs.{needs}
+use Rattle.blocks.proofs.tables.goes_to.Statement.{statement}
+use Rattle.blocks.proofs.tables.goes_to.Tie as tie
+
+cast-apply : tie.Need-cast-apply
+cast-apply c = search needs
+
+cast-apply-2 : tie.Need-cast-apply-2
+cast-apply-2 c = let s = c .before .before .before .before in omega (arith, s .pre .1, records-fit (s .args .t .geometry) (s .pre .0))
+
+apply-requires : tie.Need-apply-requires
+apply-requires c κs = search needs
+
+cast-t9 : tie.Need-cast-t9
+cast-t9 c = omega (arith, xor-lt 32 (c .before .apply .result) (c .before .before .before .before .before .before .args .t .complement) (omega (arith, c .before .apply .ok)) (omega (arith, c .struct-known3 .given)))
+
+returns : tie.Need-returns
+unfolding target
+returns c =
+    let x = c .before .before .before .before .before .before .args in
+    ap (λ (k : ℕ). bitXor k (x .t .complement)) (c .before .apply .ensures)
+
+pub goes-to-spec : {M : Type 1} → statement M
+goes-to-spec = tie.close (tie.spec cast-apply cast-apply-2 apply-requires cast-t9 returns)
