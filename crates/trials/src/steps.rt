@@ -155,41 +155,70 @@ pub fn one_write() {
     say::one(b"bytes of memory that are wrong", changed(&memory, 50));
 }
 
-// From a fresh state: steps in and out of turn.
-fn first_steps(p: Plan, area0: &mut [u8], area1: &mut [u8], memory: &mut [u8]) -> State {
-    let mut s = State::fresh();
-    s = ask(b"fresh, step 0", p, s, 0, area0, area1, memory);
-    s = ask(b"then step 0", p, s, 0, area0, area1, memory);
-    s = ask(b"then step 2", p, s, 2, area0, area1, memory);
-    ask(b"then step 1", p, s, 1, area0, area1, memory)
+// The buffers of a line in G, and its state.
+struct Line {
+    area0: [u8; AREA],
+    area1: [u8; AREA],
+    memory: [u8; MEMORY],
+    state: State,
 }
 
-// Runs of none, of one, of more than is left, and at the end.
-fn some_runs(p: Plan, from: State, area0: &mut [u8], area1: &mut [u8], memory: &mut [u8]) -> State {
-    let mut s = from;
-    s = go(b"then a run of 0", p, s, 0, area0, area1, memory);
-    s = go(b"then a run of 1", p, s, 1, area0, area1, memory);
-    s = go(b"then a run of 100", p, s, 100, area0, area1, memory);
-    go(b"then a run of 100", p, s, 100, area0, area1, memory)
+// The line after a step that is asked for.
+fn asks(asked: &[u8], p: Plan, l: Line, k: u64) -> Line {
+    let mut area0 = l.area0;
+    let mut area1 = l.area1;
+    let mut memory = l.memory;
+    let state = ask(asked, p, l.state, k, &mut area0, &mut area1, &mut memory);
+    Line {
+        area0,
+        area1,
+        memory,
+        state,
+    }
 }
 
-// At the end: the latest step, the one after it, and an earlier one.
-fn last_steps(p: Plan, from: State, area0: &mut [u8], area1: &mut [u8], memory: &mut [u8]) {
-    let mut s = from;
-    s = ask(b"then step 23", p, s, 23, area0, area1, memory);
-    s = ask(b"then step 24", p, s, 24, area0, area1, memory);
-    ask(b"then step 22", p, s, 22, area0, area1, memory);
+// The line after a run.
+fn goes(asked: &[u8], p: Plan, l: Line, allowance: u64) -> Line {
+    let mut area0 = l.area0;
+    let mut area1 = l.area1;
+    let mut memory = l.memory;
+    let state = go(
+        asked,
+        p,
+        l.state,
+        allowance,
+        &mut area0,
+        &mut area1,
+        &mut memory,
+    );
+    Line {
+        area0,
+        area1,
+        memory,
+        state,
+    }
 }
 
-// The numbers of steps and runs, from the first step to past the last.
+// The numbers of steps and runs, in and out of turn, from the first step to past the last.
 pub fn in_turn() {
     let p = reversal();
-    let mut area0 = [0u8; AREA];
-    let mut area1 = [0u8; AREA];
-    let mut memory = [0u8; MEMORY];
-    let early = first_steps(p, &mut area0, &mut area1, &mut memory);
-    let late = some_runs(p, early, &mut area0, &mut area1, &mut memory);
-    last_steps(p, late, &mut area0, &mut area1, &mut memory);
+    let mut l = Line {
+        area0: [0u8; AREA],
+        area1: [0u8; AREA],
+        memory: [0u8; MEMORY],
+        state: State::fresh(),
+    };
+    l = asks(b"fresh, step 0", p, l, 0);
+    l = asks(b"then step 0", p, l, 0);
+    l = asks(b"then step 2", p, l, 2);
+    l = asks(b"then step 1", p, l, 1);
+    l = goes(b"then a run of 0", p, l, 0);
+    l = goes(b"then a run of 1", p, l, 1);
+    l = goes(b"then a run of 100", p, l, 100);
+    l = goes(b"then a run of 100", p, l, 100);
+    l = asks(b"then step 23", p, l, 23);
+    l = asks(b"then step 24", p, l, 24);
+    asks(b"then step 22", p, l, 22);
 }
 
 // A call with three labelled buffers; then how many bytes of each changed.
