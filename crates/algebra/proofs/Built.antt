@@ -21,7 +21,7 @@ use Rattle.algebra.proofs.Pivots.{Pivots, insert, pivots-insert, rest-l
 use Rattle.algebra.proofs.Search.{below-suc}
 use Rattle.algebra.specs.Elimination.{Echelon, built, choose, grown, noEntries, rest, used, withEntry}
 use Rattle.algebra.specs.Matrix.{oneIf, rank}
-use Rattle.algebra.specs.Vector.{bit}
+use Rattle.algebra.specs.Vector.{WORD, bit}
 
 -- the lowest set bit is set
 pub lowest-on : (k n : ℕ) → 0 < n → n < 2 ^ k → bit n (trailingZeros k n) ≡ 1
@@ -55,7 +55,7 @@ built-empty room cols n = record {
   long-ts = length-replicate {A = ℕ} room 0;
 }
 
-module _ (room : ℕ) (cols : List ℕ) (n : ℕ) (hn : n ≤ 32) (hc : (i : ℕ) → getD cols i 0 < 2 ^ n) (j : ℕ) (hj : j < room) (e : Echelon) (b : Built room cols n j e) where
+module _ (room : ℕ) (cols : List ℕ) (n : ℕ) (hn : n ≤ WORD) (hc : (i : ℕ) → getD cols i 0 < 2 ^ n) (j : ℕ) (hj : j < room) (e : Echelon) (b : Built room cols n j e) where
   built-grown : Built room cols n (suc j) (grown e j (getD cols j 0))
   unfolding grown rank
   built-grown = go (eqb r 0) refl
@@ -78,10 +78,10 @@ module _ (room : ℕ) (cols : List ℕ) (n : ℕ) (hn : n ≤ 32) (hc : (i : ℕ
       nw : getD (set (e .vectors) (e .count) r) (e .count) 0 ≡ r
       nw = put (e .vectors) r (b .long-ws)
 
-      nb : (r ≡ 0 → ⊥) → bit (getD (set (e .vectors) (e .count) r) (e .count) 0) (getD (set (e .pivots) (e .count) (trailingZeros 32 r)) (e .count) 0) ≡ 1
+      nb : (r ≡ 0 → ⊥) → bit (getD (set (e .vectors) (e .count) r) (e .count) 0) (getD (set (e .pivots) (e .count) (trailingZeros WORD r)) (e .count) 0) ≡ 1
       nb f =
-          ap₂ bit nw (put (e .pivots) (trailingZeros 32 r) (b .long-qs))
-          ∙ lowest-on 32 r (⊎-elim (λ (z : r ≡ 0). absurd (f z)) (λ p. p) (eq-zero-or-pos r)) (lt-of-lt-of-le hr (pow-mono hn))
+          ap₂ bit nw (put (e .pivots) (trailingZeros WORD r) (b .long-qs))
+          ∙ lowest-on WORD r (⊎-elim (λ (z : r ≡ 0). absurd (f z)) (λ p. p) (eq-zero-or-pos r)) (lt-of-lt-of-le hr (pow-mono hn))
 
       go : (x : Bool) → eqb r 0 ≡ x → Built room cols n (suc j) (choose x e (withEntry e r t))
       go true q =
@@ -98,19 +98,19 @@ module _ (room : ℕ) (cols : List ℕ) (n : ℕ) (hn : n ≤ 32) (hc : (i : ℕ
       go false q =
           let f : r ≡ 0 → ⊥ = eqb-false r 0 q in
           record {
-            basis = rw (add-one (e .count)) (insert cols j (e .vectors) (e .pivots) (e .tags) (e .count) (b .basis) (set (e .vectors) (e .count) r) (set (e .pivots) (e .count) (trailingZeros 32 r)) (set (e .tags) (e .count) t)
-                (kept (e .vectors) r) (kept (e .pivots) (trailingZeros 32 r)) (kept (e .tags) t) nw (nb f) (put (e .tags) t (b .long-ts)));
-            pivots = rw (add-one (e .count)) (pivots-insert (e .vectors) (e .pivots) (set (e .vectors) (e .count) r) (set (e .pivots) (e .count) (trailingZeros 32 r)) (e .count) (getD cols j 0) (b .pivots)
-                (kept (e .vectors) r) (kept (e .pivots) (trailingZeros 32 r)) nw (nb f));
+            basis = rw (add-one (e .count)) (insert cols j (e .vectors) (e .pivots) (e .tags) (e .count) (b .basis) (set (e .vectors) (e .count) r) (set (e .pivots) (e .count) (trailingZeros WORD r)) (set (e .tags) (e .count) t)
+                (kept (e .vectors) r) (kept (e .pivots) (trailingZeros WORD r)) (kept (e .tags) t) nw (nb f) (put (e .tags) t (b .long-ts)));
+            pivots = rw (add-one (e .count)) (pivots-insert (e .vectors) (e .pivots) (set (e .vectors) (e .count) r) (set (e .pivots) (e .count) (trailingZeros WORD r)) (e .count) (getD cols j 0) (b .pivots)
+                (kept (e .vectors) r) (kept (e .pivots) (trailingZeros WORD r)) nw (nb f));
             small = λ i h. below-suc (λ (i : ℕ). getD (set (e .vectors) (e .count) r) i 0 < 2 ^ n) (e .count) (λ i h. subst (λ (x : ℕ). x < 2 ^ n) (sym (kept (e .vectors) r i h)) (b .small i h)) (subst (λ (x : ℕ). x < 2 ^ n) (sym nw) hr) i (omega arith);
             count = ap (λ (x : ℕ). x + 1) (b .count) ∙ ap (λ (x : Bool). rank cols j + oneIf x) (sym (rest→marked cols j (e .vectors) (e .pivots) (e .tags) (e .count) (b .basis) f));
             few = omega (arith, b .few);
             long-ws = length-set (e .vectors) (e .count) r ∙ b .long-ws;
-            long-qs = length-set (e .pivots) (e .count) (trailingZeros 32 r) ∙ b .long-qs;
+            long-qs = length-set (e .pivots) (e .count) (trailingZeros WORD r) ∙ b .long-qs;
             long-ts = length-set (e .tags) (e .count) t ∙ b .long-ts;
           }
 
-pub built-is : (room : ℕ) (cols : List ℕ) (n : ℕ) → n ≤ 32 → ((i : ℕ) → getD cols i 0 < 2 ^ n) → (j : ℕ) → j ≤ room → Built room cols n j (built room cols j)
+pub built-is : (room : ℕ) (cols : List ℕ) (n : ℕ) → n ≤ WORD → ((i : ℕ) → getD cols i 0 < 2 ^ n) → (j : ℕ) → j ≤ room → Built room cols n j (built room cols j)
 unfolding built
 built-is room cols n hn hc zero hj = built-empty room cols n
 built-is room cols n hn hc (suc j) hj = built-grown room cols n hn hc j hj (built room cols j) (built-is room cols n hn hc j (le-trans (le-suc j) hj))

@@ -17,7 +17,7 @@ use Rattle.algebra.proofs.Digits.{bit-above, times-no, times-zero, xor-
 use Rattle.algebra.proofs.Linear.{apply-lt}
 use Rattle.algebra.specs.Elimination.{Echelon, choose, grown, rest, used, withEntry}
 use Rattle.algebra.specs.Matrix.{apply}
-use Rattle.algebra.specs.Vector.{bit, comb, parity, times}
+use Rattle.algebra.specs.Vector.{WORD, bit, comb, parity, times}
 
 -- ---- applying: no row yet
 pub apply-start : (rows : List ℕ) (n x : ℕ) → apply (drop n (take n rows)) x ≡ 0
@@ -72,8 +72,8 @@ unfolding rest
 rest-start ws qs v = refl
 
 -- a bit past the top is not set
-pub bit-past : (v q : ℕ) → v < 2 ^ 32 → 32 ≤ q → 0 ≡ bit v q
-bit-past v q h l = sym (bit-above v 32 q h l)
+pub bit-past : (v q : ℕ) → v < 2 ^ WORD → WORD ≤ q → 0 ≡ bit v q
+bit-past v q h l = sym (bit-above v WORD q h l)
 
 pub times-not : (d w : ℕ) → (d ≡ 0 → ⊥) → w ≡ times d w
 unfolding times
@@ -90,12 +90,12 @@ grown-skip b j col l p z =
     sym (ap (λ (x : Bool). choose x b (withEntry b (rest (b .vectors) (b .pivots) (b .count) col) (bitXor (2 ^ j) (used (b .vectors) (b .pivots) (b .tags) (b .count) col))))
     (eq-eqb (rest (b .vectors) (b .pivots) (b .count) col) 0 (sym p ∙ z)))
 
-pub grown-entry : (b : Echelon) (j col l w t : ℕ) → l ≡ rest (b .vectors) (b .pivots) (b .count) col → (l ≡ 0 → ⊥) → w ≡ trailingZeros 32 l
+pub grown-entry : (b : Echelon) (j col l w t : ℕ) → l ≡ rest (b .vectors) (b .pivots) (b .count) col → (l ≡ 0 → ⊥) → w ≡ trailingZeros WORD l
     → t ≡ bitXor (2 ^ j) (used (b .vectors) (b .pivots) (b .tags) (b .count) col)
     → _≡_ {A = Echelon} (record { vectors = set (b .vectors) (b .count) l; pivots = set (b .pivots) (b .count) w; tags = set (b .tags) (b .count) t; count = b .count + 1 }) (grown b j col)
 unfolding grown
 grown-entry b j col l w t p f q r =
-    let q′ = q ∙ ap (trailingZeros 32) p in
+    let q′ = q ∙ ap (trailingZeros WORD) p in
     let e : _≡_ {A = Echelon} (record { vectors = set (b .vectors) (b .count) l; pivots = set (b .pivots) (b .count) w; tags = set (b .tags) (b .count) t; count = b .count + 1 })
     (withEntry b (rest (b .vectors) (b .pivots) (b .count) col) (bitXor (2 ^ j) (used (b .vectors) (b .pivots) (b .tags) (b .count) col)))
     = λ i. record { vectors = set (b .vectors) (b .count) (p i); pivots = set (b .pivots) (b .count) (q′ i); tags = set (b .tags) (b .count) (r i); count = b .count + 1 } in

@@ -24,14 +24,14 @@ use Rattle.algebra.proofs.Solve.{source-used}
 use Rattle.algebra.proofs.Spill.{Through, spill-witness, through-marked, through-unmarked, through→no-spill}
 use Rattle.algebra.specs.Elimination.{Echelon, built, rest, used}
 use Rattle.algebra.specs.Matrix.{apply, columns, inverse, singular, source, spills}
-use Rattle.algebra.specs.Vector.{comb}
+use Rattle.algebra.specs.Vector.{WORD, comb}
 
 -- ---- all of the first n rows, as a part of the rows
 pub columns-whole : (room n : ℕ) (rows cols : List ℕ) → cols ≡ columns n (take (n - 0) rows) ++ replicate (room - n) 0 → cols ≡ columns n (take n rows) ++ replicate (room - n) 0
 columns-whole room n rows cols e = e ∙ ap (λ (k : ℕ). columns n (take k rows) ++ replicate (room - n) 0) (sub-zero n)
 
 -- ---- the entries made of the columns of a matrix, where zeros follow the columns
-module _ (room n : ℕ) (rows cols : List ℕ) (hn : n ≤ room) (hr : room ≤ 32) (hl : length rows ≤ n) (hc : cols ≡ columns n rows ++ replicate (room - n) 0) where
+module _ (room n : ℕ) (rows cols : List ℕ) (hn : n ≤ room) (hr : room ≤ WORD) (hl : length rows ≤ n) (hc : cols ≡ columns n rows ++ replicate (room - n) 0) where
   column-is : (j : ℕ) → j < n → getD cols j 0 ≡ getD (columns n rows) j 0
   column-is j h =
       ap (λ (l : List ℕ). getD l j 0) hc ∙ List·getD-append (columns n rows) (replicate (room - n) 0) 0 j (omega (arith, columns-length n rows))

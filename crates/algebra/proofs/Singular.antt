@@ -1,6 +1,6 @@
 -- When do two addresses share a target, and which address is the source of one? Assumes nothing.
 use mathlib.Core.Path.{_∙_, _≡_, ap, ap₂, refl, sym}
-use mathlib.Core.Bool.{_&&_, false, true, true≢false}
+use mathlib.Core.Bool.{Bool, _&&_, false, true, true≢false}
 use mathlib.Core.Logic.{⊎-elim}
 use mathlib.Core.List.{List}
 use Prim.Native.Nat.{_<_, _^_, ℕ}
@@ -11,9 +11,9 @@ use lib.Dec.{eqb, ltb}
 use lib.Bits.{bitXor, xor-lt, xor-self}
 use borrow.Author.Tests.{eq-eqb, eqb-true, lt-ltb, ltb-true, ne-eqb}
 use Rattle.algebra.proofs.Digits.{xor-cancel-r, xor-eq}
-use Rattle.algebra.proofs.Linear.{apply-xor, apply-zero}
-use Rattle.algebra.proofs.Search.{and-l, and-r, least-holds, least-is, none-elim, some-elim, some-intro}
-use Rattle.algebra.specs.Matrix.{apply, kills, singular, source, target}
+use Rattle.algebra.proofs.Linear.{apply-identity, apply-xor, apply-zero}
+use Rattle.algebra.proofs.Search.{and-l, and-r, least-holds, least-is, none-elim, none-intro, some-elim, some-intro}
+use Rattle.algebra.specs.Matrix.{apply, identity, kills, singular, source, target}
 
 pub kills-intro : (rows : List ℕ) (z : ℕ) → 0 < z → apply rows z ≡ 0 → kills rows z ≡ true
 unfolding kills
@@ -64,6 +64,15 @@ singular→clash n rows c e =
       apart = λ q. omega (arith, k .0, q);
       same = ap (λ (u : ℕ). bitXor u c) (k .1 ∙ sym (apply-zero rows));
     }
+
+-- the identity sends only zero to zero
+pub identity-regular : (n : ℕ) → singular n (identity n) ≡ false
+unfolding singular
+identity-regular n = none-intro (kills (identity n)) (2 ^ n) (λ z h. go z h (kills (identity n) z) refl)
+  where
+    go : (z : ℕ) → z < 2 ^ n → (b : Bool) → kills (identity n) z ≡ b → b ≡ false
+    go z h true e = let k = kills-elim (identity n) z e in absurd (omega (arith, k .0, sym (apply-identity n z h) ∙ k .1))
+    go z h false e = refl
 
 -- in a matrix that is not singular only zero is sent to zero, and a target has one source
 pub regular-zero : (n : ℕ) (rows : List ℕ) (z : ℕ) → singular n rows ≡ false → z < 2 ^ n → apply rows z ≡ 0 → z ≡ 0

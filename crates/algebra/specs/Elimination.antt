@@ -7,7 +7,7 @@ use lib.Bits.{bitXor}
 use lib.Count.{trailingZeros}
 use lib.Dec.{eqb}
 use lib.ListN.{getD, set, replicate}
-use Rattle.algebra.specs.Vector.{bit, times}
+use Rattle.algebra.specs.Vector.{WORD, bit, times}
 
 -- v after the first k entries: an entry's vector is added where v has the entry's pivot
 unfoldable pub rest : List ℕ → List ℕ → ℕ → ℕ → ℕ
@@ -36,12 +36,12 @@ abbrev pub choose : Bool → Echelon → Echelon → Echelon
 choose true a b = a
 choose false a b = b
 
--- one entry more, with its lowest set bit as the pivot; a vector has at most 32 bits
+-- one entry more, with its lowest set bit as the pivot; a vector has at most WORD bits
 abbrev pub withEntry : Echelon → ℕ → ℕ → Echelon
 withEntry e vector tag =
     record {
       vectors = set (e .vectors) (e .count) vector;
-      pivots = set (e .pivots) (e .count) (trailingZeros 32 vector);
+      pivots = set (e .pivots) (e .count) (trailingZeros WORD vector);
       tags = set (e .tags) (e .count) tag;
       count = e .count + 1;
     }

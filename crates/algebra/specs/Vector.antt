@@ -4,6 +4,10 @@ use Prim.Native.Nat.{ℕ, zero, suc, _/_, _%_, _^_}
 use lib.Bits.{bitXor}
 use lib.Count.{ones}
 
+-- the bits of a word, in which code keeps a vector
+abbrev pub WORD : ℕ
+WORD = 32
+
 -- bit i of x
 unfoldable pub bit : ℕ → ℕ → ℕ
 bit x i = x / 2 ^ i % 2

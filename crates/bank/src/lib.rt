@@ -16,6 +16,9 @@ pub const PLACES: usize = PASSES * ROWS;
 // The most bytes of a record.
 pub const BYTES: u32 = 64;
 
+// The bits of a word, in which a vector is kept.
+pub const WORD: u32 = 32;
+
 // 2^n records in blocks of 2^b on 2^d drives, a memory of 2^m records, records of r bytes.
 pub struct Geometry {
     pub n: u32,

@@ -16,7 +16,9 @@ use Rattle.bank.specs.declared.Geometry.{Geometry}
 use Rattle.moving.proofs.Low.{low-regular}
 use Rattle.planning.specs.Pass.{Pass}
 use Rattle.blocks.specs.Tables.{Prepared, TablesReady, lowBlocks, lowColumns, passFor, passWith, tablesFor}
+use Rattle.blocks.specs.Turns.{Paced}
 use Rattle.blocks.specs.declared.tables.Tables.{Tables}
+use Rattle.blocks.specs.declared.turns.Pace.{Pace}
 
 -- the first d of m units, mapped, with anything after them
 first-units : (f : ℕ → ℕ) (d m j : ℕ) (z : List ℕ) → d ≤ m → take d (map f (units m j) ++ z) ≡ map f (units d j)
@@ -68,21 +70,21 @@ module _ (g : Geometry) (rows : List ℕ) (c : ℕ) (k : TablesReady g rows c) w
   low-long = columns-length (g .m) (inverse (g .m) (take (g .m) (pass .rows)))
 
   -- from the two arrays that code makes
-  pub tables-made : (p : ℕ) (columns′ blocks′ : List ℕ)
+  pub tables-made : (pace : Pace) (p : ℕ) (columns′ blocks′ : List ℕ)
       → columns′ ≡ columns (g .m) (inverse (g .m) (take (g .m) rows)) ++ replicate (ROWS - g .m) 0
       → blocks′ ≡ map (λ v. apply (take (g .n) rows) v / 2 ^ g .b) (take (g .m) columns′) ++ replicate (ROWS - g .m) 0
-      → _≡_ {A = Tables} (record { geometry = g; pass = p; rows = rows; complement = c; columns = columns′; blocks = blocks′ }) (tablesFor g p rows c)
+      → _≡_ {A = Tables} (record { geometry = g; pace = pace; pass = p; rows = rows; complement = c; columns = columns′; blocks = blocks′ }) (tablesFor g pace p rows c)
   unfolding tablesFor
-  tables-made p columns′ blocks′ ec eb =
-      ap₂ (λ (x y : List ℕ). record { geometry = g; pass = p; rows = rows; complement = c; columns = x; blocks = y }) same
+  tables-made pace p columns′ blocks′ ec eb =
+      ap₂ (λ (x y : List ℕ). record { geometry = g; pace = pace; pass = p; rows = rows; complement = c; columns = x; blocks = y }) same
       (eb ∙ ap (λ (l : List ℕ). map (λ v. apply (take (g .n) rows) v / 2 ^ g .b) l ++ replicate (ROWS - g .m) 0) (ap (take (g .m)) same ∙ take-at (lowColumns g pass) (replicate (ROWS - g .m) 0) (g .m) low-long))
     where
       same : columns′ ≡ lowColumns g pass ++ replicate (ROWS - g .m) 0
       same = ec ∙ ap (λ (l : List ℕ). columns (g .m) (inverse (g .m) l) ++ replicate (ROWS - g .m) 0) (sym low-same)
 
-  pub tables-prepared : (p : ℕ) → Prepared (tablesFor g p rows c)
+  pub tables-prepared : (pace : Pace) → Paced g pace → (p : ℕ) → Prepared (tablesFor g pace p rows c)
   unfolding tablesFor
-  tables-prepared p = record { ready = k; columns-are = refl; blocks-are = refl }
+  tables-prepared pace at p = record { ready = k; columns-are = refl; blocks-are = refl; paced = at }
 
 -- ---- the parts of prepared tables that a write goes by
 

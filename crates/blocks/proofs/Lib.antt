@@ -6,5 +6,6 @@ pub mod Drives
 pub mod Columns
 pub mod Sizes
 pub mod Steps
+pub mod Paces
 pub mod Sides
 pub mod Plans

@@ -16,16 +16,18 @@ use Rattle.moving.proofs.Numbers.{pass-of-lt, pass-pos}
 use Rattle.moving.specs.Call.{movesFrom}
 use Rattle.moving.specs.Number.{loadOf, passOf, phaseOf, turnOf}
 use Rattle.moving.specs.Step.{Buffers, Fits, byPhase, move, readMove, writeMove}
-use Rattle.plan.proofs.Judging.{records-small, total-small}
+use Rattle.plan.proofs.Judging.{few-phases, records-small, total-small}
 use Rattle.planning.specs.Running.{PassRuns, Runs}
 use Rattle.planning.proofs.Stored.{route-at, route-length}
-use Rattle.planning.specs.Pass.{Pass, Route, loadSteps, passAt, passSteps, phases, total}
+use Rattle.planning.specs.declared.Phase.{Phase}
+use Rattle.planning.specs.Pass.{Pass, Route, passAt, passSteps, phases, total}
 use Rattle.planning.specs.Stored.{routeOf, storedPass}
 use Rattle.planning.specs.declared.Plan.{Plan}
 use Rattle.blocks.proofs.Columns.{tables-prepared}
+use Rattle.blocks.proofs.Paces.{phase-same, plan-paced}
 use Rattle.blocks.specs.Moving.{MoveReady, moveBy, movesBy, tablesOf}
 use Rattle.blocks.specs.Tables.{Prepared, TablesReady, passWith, tablesFor}
-use Rattle.blocks.specs.Turns.{emptyRoute}
+use Rattle.blocks.specs.Turns.{paceOf}
 use Rattle.blocks.specs.declared.tables.Tables.{Tables}
 
 module _ (plan : Plan) (k : Runs (routeOf plan)) (p : ℕ) (h : p < plan .count) where
@@ -57,13 +59,15 @@ module _ (plan : Plan) (k : Runs (routeOf plan)) (p : ℕ) (h : p < plan .count)
 
   pub plan-prepared : Prepared (tablesOf plan p)
   unfolding tablesOf
-  plan-prepared = tables-prepared g rows c plan-ready p
+  plan-prepared = tables-prepared g rows c plan-ready (paceOf (routeOf plan)) (plan-paced plan) p
 
   -- a step of that pass, and some steps
   pub move-same : (s : ℕ) (v : Buffers) → passOf (routeOf plan) s ≡ p → moveBy (tablesOf plan p) s v ≡ move (routeOf plan) s v
-  unfolding moveBy tablesOf tablesFor move routeOf phaseOf loadOf turnOf passSteps loadSteps phases
+  unfolding moveBy tablesOf tablesFor move routeOf loadOf turnOf
   move-same s v e =
-      ap₂ (λ (q : ℕ) (w : Pass). byPhase (phaseOf (routeOf plan) s) (readMove g q (loadOf (routeOf plan) s) (turnOf (routeOf plan) s) v) (writeMove g w q (loadOf (routeOf plan) s) (turnOf (routeOf plan) s) v))
+      ap (λ (f : Phase). byPhase f (readMove g p (loadOf (routeOf plan) s) (turnOf (routeOf plan) s) v) (writeMove g (passWith g rows c) p (loadOf (routeOf plan) s) (turnOf (routeOf plan) s) v))
+      (phase-same (routeOf plan) s)
+      ∙ ap₂ (λ (q : ℕ) (w : Pass). byPhase (phaseOf (routeOf plan) s) (readMove g q (loadOf (routeOf plan) s) (turnOf (routeOf plan) s) v) (writeMove g w q (loadOf (routeOf plan) s) (turnOf (routeOf plan) s) v))
       (sym e) (pass-same ∙ ap (passAt (routeOf plan)) (sym e))
 
   pub moves-same : (s n : ℕ) (v : Buffers) → ((i : ℕ) → i < n → passOf (routeOf plan) (s + i) ≡ p) → movesBy (tablesOf plan p) s n v ≡ movesFrom (routeOf plan) s n v
@@ -78,11 +82,6 @@ pub same-pass : (route : Route) (s i : ℕ) → s % passSteps route + i < passSt
 unfolding passOf
 same-pass route s i h =
     ap (λ (n : ℕ). n / passSteps route) (omega (arith, div-add-mod' s (passSteps route))) ∙ digits-div (s / passSteps route) {m = passSteps route} {r = s % passSteps route + i} h
-
--- the steps of a pass, for any route of the geometry
-pub pass-alone : (plan : Plan) (s : ℕ) → passOf (emptyRoute (plan .geometry)) s ≡ passOf (routeOf plan) s
-unfolding passOf passSteps phases routeOf
-pass-alone plan s = refl
 
 -- one step more
 pub moves-next : (t : Tables) (s k : ℕ) (v w : Buffers) → w ≡ movesBy t s k v → moveBy t (s + k) w ≡ movesBy t s (k + 1) v
@@ -101,14 +100,9 @@ from-none route s v = refl
 
 -- a total is small
 pub total-fits : (route : Route) → Allowed (route .geometry) → length (route .passes) ≤ PASSES → total route < 2 ^ 64
-unfolding total passSteps phases
+unfolding total passSteps
 total-fits route ok few =
-    omega (arith, total-small (records (route .geometry)) (block (route .geometry) * drives (route .geometry)) (length (route .passes)) (records-small (route .geometry) ok) few)
-
--- the steps of a pass, as code counts them
-pub steps-alone : (plan : Plan) → passSteps (emptyRoute (plan .geometry)) ≡ passSteps (routeOf plan)
-unfolding passSteps phases routeOf
-steps-alone plan = refl
+    omega (arith, total-small (length (phases route)) (records (route .geometry)) (block (route .geometry) * drives (route .geometry)) (length (route .passes)) (few-phases route) (records-small (route .geometry) ok) few)
 
 module _ (plan : Plan) (k : Runs (routeOf plan)) where
   pub plan-allowed : Allowed (plan .geometry)

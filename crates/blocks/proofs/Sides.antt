@@ -2,22 +2,20 @@
 use mathlib.Core.Path.{_≡_, refl, sym, ap, ap₂, _∙_}
 use mathlib.Core.Bool.{Bool, true, false, not}
 use mathlib.Core.List.{List}
-use Prim.Native.Nat.{ℕ, zero, suc, _*_}
+use Prim.Native.Nat.{ℕ, _*_}
 use lib.ListN.{length}
 use Rattle.bank.specs.Geometry.{records}
 use Rattle.bank.specs.declared.Geometry.{Geometry}
-use Rattle.moving.proofs.Numbers.{load-of-lt, turn-lt}
 use Rattle.moving.specs.Bytes.{copied}
 use Rattle.moving.specs.Step.{Buffers, Fits, areaBy, byPhase, even, readFrom, readMove, readTakes, withAreaBy, withMemory, writeFrom, writeMove, writeTakes}
+use Rattle.planning.specs.declared.Phase.{Phase}
+use Rattle.planning.specs.declared.Phase.the-variants.{Reads, Writes}
+use Rattle.blocks.proofs.Paces.{load-in-pass, turn-in-phase}
 use Rattle.blocks.specs.Moving.{BetweenReady, MoveReady, memoryAfter, moveBy, toAfter}
 use Rattle.blocks.specs.Tables.{passFor}
-use Rattle.blocks.specs.Turns.{emptyRoute, turnAt}
+use Rattle.blocks.specs.Turns.{turnAt}
 use Rattle.blocks.specs.declared.tables.Tables.{Tables}
 use Rattle.blocks.specs.declared.turns.Turn.{Turn}
-
-by-writes : {A : Type 0} (k : ℕ) (reads writes : A) → (k ≡ 0 → ⊥) → writes ≡ byPhase k reads writes
-by-writes zero reads writes ne = absurd (ne refl)
-by-writes (suc k) reads writes ne = refl
 
 -- a read leaves the area written, and a write leaves memory
 module _ (t : Tables) (at : Turn) (from to mem : List ℕ) where
@@ -27,17 +25,17 @@ module _ (t : Tables) (at : Turn) (from to mem : List ℕ) where
   abbrev read : List ℕ
   read = copied (readTakes (t .geometry) (at .turn)) (readFrom (t .geometry) (at .load)) (t .geometry .r) from mem
 
-  pub reads-to : at .phase ≡ 0 → to ≡ toAfter t at to mem
-  reads-to e = ap (λ (k : ℕ). byPhase k to written) (sym e)
+  pub reads-to : at .phase ≡ Reads → to ≡ toAfter t at to mem
+  reads-to f = ap (λ (k : Phase). byPhase k to written) (sym f)
 
-  pub reads-memory : (mem′ : List ℕ) → at .phase ≡ 0 → mem′ ≡ read → mem′ ≡ memoryAfter t at from mem
-  reads-memory mem′ z e = e ∙ ap (λ (k : ℕ). byPhase k read mem) (sym z)
+  pub reads-memory : (mem′ : List ℕ) → at .phase ≡ Reads → mem′ ≡ read → mem′ ≡ memoryAfter t at from mem
+  reads-memory mem′ f e = e ∙ ap (λ (k : Phase). byPhase k read mem) (sym f)
 
-  pub writes-to : (to′ : List ℕ) → (at .phase ≡ 0 → ⊥) → to′ ≡ written → to′ ≡ toAfter t at to mem
-  writes-to to′ ne e = e ∙ by-writes (at .phase) to written ne
+  pub writes-to : (to′ : List ℕ) → at .phase ≡ Writes → to′ ≡ written → to′ ≡ toAfter t at to mem
+  writes-to to′ f e = e ∙ ap (λ (k : Phase). byPhase k to written) (sym f)
 
-  pub writes-memory : (at .phase ≡ 0 → ⊥) → mem ≡ memoryAfter t at from mem
-  writes-memory ne = by-writes (at .phase) read mem ne
+  pub writes-memory : at .phase ≡ Writes → mem ≡ memoryAfter t at from mem
+  writes-memory f = ap (λ (k : Phase). byPhase k read mem) (sym f)
 
 -- ---- the side that is read is b, the side written the other
 
@@ -51,10 +49,10 @@ module _ (v : Buffers) where
   memory-kept false l = refl
 
   -- the area written and memory, phase by phase
-  both : (b : Bool) (R W to′ m′ : List ℕ) (k : ℕ) → to′ ≡ byPhase k (areaBy b v) W → m′ ≡ byPhase k R (v .memory)
+  both : (b : Bool) (R W to′ m′ : List ℕ) (k : Phase) → to′ ≡ byPhase k (areaBy b v) W → m′ ≡ byPhase k R (v .memory)
       → withMemory m′ (withAreaBy b to′ v) ≡ byPhase k (withMemory R v) (withAreaBy b W v)
-  both b R W to′ m′ zero e f = ap₂ (λ (x y : List ℕ). withMemory y (withAreaBy b x v)) e f ∙ ap (withMemory R) (area-kept b)
-  both b R W to′ m′ (suc k) e f = ap₂ (λ (x y : List ℕ). withMemory y (withAreaBy b x v)) e f ∙ memory-kept b W
+  both b R W to′ m′ Reads e f = ap₂ (λ (x y : List ℕ). withMemory y (withAreaBy b x v)) e f ∙ ap (withMemory R) (area-kept b)
+  both b R W to′ m′ Writes e f = ap₂ (λ (x y : List ℕ). withMemory y (withAreaBy b x v)) e f ∙ memory-kept b W
 
 area-long : (g : Geometry) (v : Buffers) (b : Bool) → Fits g v → length (areaBy b v) ≡ records g * g .r
 area-long g v true k = k .area0-long
@@ -67,11 +65,11 @@ module _ (t : Tables) (s : ℕ) (v : Buffers) where
       byPhase (at .phase) (withMemory (copied (readTakes (t .geometry) (at .turn)) (readFrom (t .geometry) (at .load)) (t .geometry .r) (areaBy b v) (v .memory)) v)
       (withAreaBy (not b) (copied (writeTakes (t .geometry) (passFor t) (at .load) (at .turn)) (writeFrom (t .geometry) (passFor t)) (t .geometry .r) (v .memory) (areaBy (not b) v)) v)
 
-  sided : side (even (t .pass)) (turnAt (t .geometry) s) ≡ moveBy t s v
+  sided : side (even (t .pass)) (turnAt (t .pace) s) ≡ moveBy t s v
   unfolding side moveBy readMove writeMove
   sided = refl
 
-  module _ (b : Bool) (at : Turn) (turn : at ≡ turnAt (t .geometry) s) where
+  module _ (b : Bool) (at : Turn) (turn : at ≡ turnAt (t .pace) s) where
     pub side-move : even (t .pass) ≡ b → (to′ m′ : List ℕ) → to′ ≡ toAfter t at (areaBy (not b) v) (v .memory) → m′ ≡ memoryAfter t at (areaBy b v) (v .memory)
         → withMemory m′ (withAreaBy (not b) to′ v) ≡ moveBy t s v
     unfolding side
@@ -85,8 +83,8 @@ module _ (t : Tables) (s : ℕ) (v : Buffers) where
     side-ready k =
         record {
           prepared = k .prepared;
-          load-in = rw turn (load-of-lt (emptyRoute (t .geometry)) (k .prepared .ready .allowed) s);
-          turn-in = rw turn (turn-lt (emptyRoute (t .geometry)) (k .prepared .ready .allowed) s);
+          load-in = rw turn (load-in-pass (t .geometry) (t .pace) (k .prepared .paced) (k .prepared .ready .allowed) s);
+          turn-in = rw turn (turn-in-phase (t .geometry) (t .pace) (k .prepared .paced) (k .prepared .ready .allowed) s);
           from-long = area-long (t .geometry) v b (k .fitting);
           to-long = area-long (t .geometry) v (not b) (k .fitting);
           memory-long = k .fitting .memory-long;

@@ -6,19 +6,20 @@ use native.Mathlib.Omega.{arith}
 use lib.Pow.{pow-mono, pow-pos}
 use Rattle.bank.specs.declared.Geometry.{Geometry}
 use Rattle.bank.specs.Geometry.{Allowed, block, drives, memory, records, stripes}
+use Rattle.algebra.specs.Vector.{WORD}
 use Rattle.moving.proofs.Drives.{first-lt}
 use Rattle.moving.specs.Blocks.{blockStart}
 
 module _ (g : Geometry) (ok : Allowed g) where
-  pub records-fit : records g ≤ 2 ^ 32
-  records-fit = pow-mono {i = g .n} {j = 32} (omega (arith, ok .n-high))
+  pub records-fit : records g ≤ 2 ^ WORD
+  records-fit = pow-mono {i = g .n} {j = WORD} (omega (arith, ok .n-high))
 
   pub memory-fit : memory g ≤ records g
   memory-fit = pow-mono {i = g .m} {j = g .n} (omega (arith, ok .memory-below))
 
-  pub stripes-small : stripes g ≤ 2 ^ 32
+  pub stripes-small : stripes g ≤ records g
   unfolding stripes
-  stripes-small = omega (arith, div-le-self (memory g) (block g * drives g), memory-fit, records-fit)
+  stripes-small = omega (arith, div-le-self (memory g) (block g * drives g), memory-fit)
 
   -- the bytes of an area, and of memory
   pub area-fits : records g * g .r < 2 ^ 64

@@ -10,10 +10,9 @@ use Rattle.planning.specs.Pass.{total}
 use Rattle.planning.specs.Stored.{routeOf}
 use Rattle.planning.specs.Running.{Runs}
 use Rattle.moving.specs.Bytes.{copied}
-use Rattle.moving.specs.Number.{loadOf, phaseOf, turnOf}
 use Rattle.moving.specs.Step.{Buffers, Fits, byPhase, readFrom, readMove, readTakes, writeFrom, writeMove, writeTakes}
 use Rattle.blocks.specs.Tables.{Prepared, passFor, tablesFor}
-use Rattle.blocks.specs.Turns.{emptyRoute}
+use Rattle.blocks.specs.Turns.{paceOf, turnAt}
 use Rattle.blocks.specs.declared.tables.Tables.{Tables}
 use Rattle.blocks.specs.declared.turns.Turn.{Turn}
 
@@ -35,13 +34,14 @@ pub record BetweenReady (t : Tables) (at : Turn) (from to mem : List ℕ) : Type
   pub to-long : length to ≡ records (t .geometry) * t .geometry .r
   pub memory-long : length mem ≡ memory (t .geometry) * t .geometry .r
 
--- ---- a step, and k steps of one pass
+-- ---- a turn, a step, and k steps of one pass
+
+abbrev pub moveAt : Tables → Turn → Buffers → Buffers
+moveAt t at v =
+    byPhase (at .phase) (readMove (t .geometry) (t .pass) (at .load) (at .turn) v) (writeMove (t .geometry) (passFor t) (t .pass) (at .load) (at .turn) v)
 
 unfoldable pub moveBy : Tables → ℕ → Buffers → Buffers
-moveBy t s v =
-    byPhase (phaseOf (emptyRoute (t .geometry)) s)
-    (readMove (t .geometry) (t .pass) (loadOf (emptyRoute (t .geometry)) s) (turnOf (emptyRoute (t .geometry)) s) v)
-    (writeMove (t .geometry) (passFor t) (t .pass) (loadOf (emptyRoute (t .geometry)) s) (turnOf (emptyRoute (t .geometry)) s) v)
+moveBy t s v = moveAt t (turnAt (t .pace) s) v
 
 unfoldable pub movesBy : Tables → ℕ → ℕ → Buffers → Buffers
 movesBy t s zero v = v
@@ -54,7 +54,7 @@ pub record MoveReady (t : Tables) (v : Buffers) : Type 0 where
 -- ---- the tables of pass p of a plan
 
 unfoldable pub tablesOf : Plan → ℕ → Tables
-tablesOf plan p = tablesFor (plan .geometry) p (take ROWS (drop (p * ROWS) (plan .rows))) (getD (plan .complements) p 0)
+tablesOf plan p = tablesFor (plan .geometry) (paceOf (routeOf plan)) p (take ROWS (drop (p * ROWS) (plan .rows))) (getD (plan .complements) p 0)
 
 -- steps that a plan has, on buffers of their lengths
 pub record StepsReady (plan : Plan) (s k : ℕ) (v : Buffers) : Type 0 where

@@ -9,7 +9,9 @@ use Rattle.bank.specs.Geometry.{Allowed, block, loads, memory, records, stripes
 use Rattle.algebra.specs.Matrix.{apply, columns, inverse}
 use Rattle.planning.specs.Running.{PassRuns}
 use Rattle.planning.specs.Pass.{Pass}
+use Rattle.blocks.specs.Turns.{Paced}
 use Rattle.blocks.specs.declared.tables.Tables.{Tables}
+use Rattle.blocks.specs.declared.turns.Pace.{Pace}
 
 -- the pass of n of the stored rows, and a complement
 abbrev pub passWith : Geometry → List ℕ → ℕ → Pass
@@ -23,10 +25,11 @@ lowColumns g pass = columns (g .m) (inverse (g .m) (take (g .m) (pass .rows)))
 abbrev pub lowBlocks : Geometry → Pass → List ℕ
 lowBlocks g pass = map (λ v. apply (pass .rows) v / block g) (lowColumns g pass)
 
-unfoldable pub tablesFor : Geometry → ℕ → List ℕ → ℕ → Tables
-tablesFor g p rows c =
+unfoldable pub tablesFor : Geometry → Pace → ℕ → List ℕ → ℕ → Tables
+tablesFor g pace p rows c =
     record {
       geometry = g;
+      pace = pace;
       pass = p;
       rows = rows;
       complement = c;
@@ -43,11 +46,12 @@ pub record TablesReady (g : Geometry) (rows : List ℕ) (c : ℕ) : Type 0 where
   pub allowed : Allowed g
   pub runs : PassRuns g (passWith g rows c)
 
--- tables that are those of their pass
+-- tables that are those of their pass, at a pace of their bank
 pub record Prepared (t : Tables) : Type 0 where
   pub ready : TablesReady (t .geometry) (t .rows) (t .complement)
   pub columns-are : t .columns ≡ lowColumns (t .geometry) (passFor t) ++ replicate (ROWS - t .geometry .m) 0
   pub blocks-are : t .blocks ≡ lowBlocks (t .geometry) (passFor t) ++ replicate (ROWS - t .geometry .m) 0
+  pub paced : Paced (t .geometry) (t .pace)
 
 -- a read, and a write, that is one of the load's, on buffers of their lengths
 pub record ReadReady (g : Geometry) (load turn : ℕ) (area mem : List ℕ) : Type 0 where

@@ -1,15 +1,34 @@
--- Where in its pass does a step stand? Its number and the geometry say so, whatever the passes are. Assumes nothing.
-use mathlib.Core.List.{[]}
-use Prim.Native.Nat.{ℕ}
+-- Where in its pass does a step stand? Its number and the pace of the steps say so. Assumes nothing.
+use mathlib.Core.Path.{_≡_}
+use Prim.Native.Nat.{ℕ, zero, suc, _/_, _%_}
 use Rattle.bank.specs.declared.Geometry.{Geometry}
-use Rattle.planning.specs.Pass.{Route}
-use Rattle.moving.specs.Number.{loadOf, phaseOf, turnOf}
+use Rattle.bank.specs.Geometry.{stripes}
+use Rattle.planning.specs.declared.Phase.{Phase}
+use Rattle.planning.specs.declared.Phase.the-variants.{Reads, Writes}
+use Rattle.planning.specs.Pass.{Route, loadSteps, passSteps}
+use Rattle.blocks.specs.declared.turns.Pace.{Pace}
 use Rattle.blocks.specs.declared.turns.Turn.{Turn}
 
--- a route of no passes
-abbrev pub emptyRoute : Geometry → Route
-emptyRoute g = record { geometry = g; passes = [] }
+-- the steps of a phase, of a memoryload, of a pass
+abbrev pub paceOf : Route → Pace
+paceOf route = record { phase = stripes (route .geometry); load = loadSteps route; pass = passSteps route }
+
+-- the phase at place k of a memoryload's
+unfoldable pub phaseAt : ℕ → Phase
+phaseAt zero = Reads
+phaseAt (suc k) = Writes
 
 -- the load, the phase and the turn of step s
-abbrev pub turnAt : Geometry → ℕ → Turn
-turnAt g s = record { load = loadOf (emptyRoute g) s; phase = phaseOf (emptyRoute g) s; turn = turnOf (emptyRoute g) s }
+abbrev pub turnAt : Pace → ℕ → Turn
+turnAt pace s =
+    record {
+      load = s % pace .pass / pace .load;
+      phase = phaseAt (s % pace .pass % pace .load / pace .phase);
+      turn = s % pace .pass % pace .load % pace .phase;
+    }
+
+-- a pace that a bank has: that of a route there
+pub record Paced (g : Geometry) (pace : Pace) : Type 0 where
+  pub route : Route
+  pub geometry-is : route .geometry ≡ g
+  pub pace-is : pace ≡ paceOf route

@@ -21,6 +21,7 @@ use bank::Block;
 use bank::Geometry;
 use bank::Step;
 use bank::power;
+use planning::Phase;
 
 // The block of size bytes goes to memory's index at.
 fn read_block(memory: &mut [u8], at: usize, area: &[u8], block: Block, size: usize)
@@ -152,10 +153,13 @@ fn move_between(from: &[u8], to: &mut [u8], memory: &mut [u8], t: Tables, at: Tu
     let load = at.load;
     let turn = at.turn;
     let phase = at.phase;
-    if phase == 0 {
-        read_step(memory, from, t.geometry, load, turn);
-    } else {
-        write_step(to, memory, t, load, turn);
+    match phase {
+        Phase::Reads => {
+            read_step(memory, from, t.geometry, load, turn);
+        }
+        Phase::Writes => {
+            write_step(to, memory, t, load, turn);
+        }
     }
 }
 
@@ -164,7 +168,7 @@ pub fn move_step(t: Tables, s: Step, area0: &mut [u8], area1: &mut [u8], memory:
     requires { ⌜ MoveReady t (buffersOf (now area0) (now area1) (now memory)) ⌝ }
     ensures { λ _. ⌜ buffersOf (now (area0 .exit)) (now (area1 .exit)) (now (memory .exit)) ≡ moveBy t (s .0) (buffersOf (now (area0 .entry)) (now (area1 .entry)) (now (memory .entry))) ⌝ }
 {
-    let at = turn_of(t.geometry, s);
+    let at = turn_of(t.pace, s);
     let side = t.pass % 2;
     if side == 0 {
         move_between(area0, area1, memory, t, at);

@@ -6,13 +6,15 @@ ghost use lib.ListN.{take, replicate};
 ghost use Rattle.bank.specs.Limits.{ROWS};
 ghost use lib.Bits.{bitXor};
 ghost use Rattle.bank.specs.Geometry.{Allowed, block, memory, records, stripes};
-ghost use Rattle.algebra.specs.Vector.{comb};
+ghost use Rattle.algebra.specs.Vector.{WORD, comb};
 ghost use Rattle.algebra.specs.Matrix.{apply, target};
 ghost use Rattle.moving.specs.Blocks.{blockStart};
 ghost use Rattle.planning.specs.Stored.{routeOf};
 ghost use Rattle.planning.specs.Running.{Runs};
 ghost use Rattle.blocks.specs.Moving.{tablesOf};
 ghost use Rattle.blocks.specs.Tables.{tablesFor, TablesReady, passFor};
+use crate::turns::Pace;
+use crate::turns::pace_of;
 use bank::Address;
 use bank::Block;
 use bank::Geometry;
@@ -24,9 +26,10 @@ use matrix::vector::sum;
 use plan::store::pass_rows;
 use planning::Plan;
 
-// The pass's rows and complement; the columns of the inverse of its low m by m part; what the pass makes of those, in blocks.
+// The pace of the plan's steps; the pass's rows and complement; the columns of the inverse of its low m by m part; what the pass makes of those, in blocks.
 pub struct Tables {
     pub geometry: Geometry,
+    pub pace: Pace,
     pub pass: u64,
     pub rows: [u32; ROWS],
     pub complement: u32,
@@ -42,7 +45,7 @@ fn block_columns(
     m: usize,
     b: u32,
 ) -> [u32; ROWS]
-    requires { ⌜ (n ≤ ROWS) × (m ≤ ROWS) × (b < 32) ⌝ }
+    requires { ⌜ (n ≤ ROWS) × (m ≤ ROWS) × (b < WORD) ⌝ }
     ensures { λ r. ⌜ r ≡ map (λ v. apply (take n (now (rows .entry))) v / 2 ^ b) (take m columns) ++ replicate (ROWS - m) 0 ⌝ }
 {
     let mut blocks = [0u32; ROWS];
@@ -55,9 +58,9 @@ fn block_columns(
 }
 
 // The tables of a pass.
-fn tables_for(g: Geometry, pass: u64, rows: [u32; ROWS], complement: u32) -> Tables
+fn tables_for(g: Geometry, pace: Pace, pass: u64, rows: [u32; ROWS], complement: u32) -> Tables
     requires { ⌜ TablesReady g rows complement ⌝ }
-    ensures { λ r. ⌜ r ≡ tablesFor g pass rows complement ⌝ }
+    ensures { λ r. ⌜ r ≡ tablesFor g pace pass rows complement ⌝ }
 {
     let n = g.n as usize;
     let m = g.m as usize;
@@ -65,6 +68,7 @@ fn tables_for(g: Geometry, pass: u64, rows: [u32; ROWS], complement: u32) -> Tab
     let blocks = block_columns(&rows, n, columns, m, g.b);
     Tables {
         geometry: g,
+        pace: pace,
         pass: pass,
         rows: rows,
         complement: complement,
@@ -82,7 +86,8 @@ pub fn tables_of(plan: Plan, p: u64) -> Tables
     let all = plan.rows;
     let complements = plan.complements;
     let rows = pass_rows(&all, at);
-    tables_for(plan.geometry, p, rows, complements[at])
+    let pace = pace_of(plan);
+    tables_for(plan.geometry, pace, p, rows, complements[at])
 }
 
 // Where the pass sends the record at x.

@@ -1,56 +1,72 @@
 // Which pass, load, phase and turn is a step?
 ghost use mathlib.Core.Path.{_≡_};
-ghost use Rattle.bank.specs.Geometry.{Allowed, stripes};
-ghost use Rattle.planning.specs.Pass.{passSteps};
+ghost use Prim.Native.Nat.{_<_};
+ghost use Rattle.bank.specs.Geometry.{Allowed};
+ghost use Rattle.planning.specs.Stored.{routeOf};
 ghost use Rattle.moving.specs.Number.{passOf};
-ghost use Rattle.blocks.specs.Turns.{emptyRoute, turnAt};
-use bank::Geometry;
+ghost use Rattle.blocks.specs.Turns.{paceOf, phaseAt, turnAt};
 use bank::Step;
 use bank::power;
+use plan::running::phases;
+use planning::Phase;
+use planning::Plan;
 
-// Where in its pass a step stands: its memoryload, reads or writes, and which of them.
+// How a plan's step numbers are taken apart: the steps of a phase, of a memoryload, of a pass.
+pub struct Pace {
+    pub phase: u64,
+    pub load: u64,
+    pub pass: u64,
+}
+
+// Where in its pass a step stands: its memoryload, its phase there, and which of the phase's turns.
 pub(crate) struct Turn {
     pub load: u64,
-    pub phase: u64,
+    pub phase: Phase,
     pub turn: u64,
 }
 
-// The reads, and the writes, of a memoryload.
-fn stripes(g: Geometry) -> u64
-    requires { ⌜ Allowed g ⌝ }
-    ensures { λ r. ⌜ r ≡ stripes g ⌝ }
+// The pace of a plan's steps.
+pub fn pace_of(plan: Plan) -> Pace
+    requires { ⌜ Allowed (plan .geometry) ⌝ }
+    ensures { λ r. ⌜ r ≡ paceOf (routeOf plan) ⌝ }
 {
-    power(g.m) / (power(g.b) * power(g.d))
-}
-
-// The steps of a pass.
-pub fn pass_steps(g: Geometry) -> u64
-    requires { ⌜ Allowed g ⌝ }
-    ensures { λ r. ⌜ r ≡ passSteps (emptyRoute g) ⌝ }
-{
-    2 * power(g.n) / (power(g.b) * power(g.d))
+    let g = plan.geometry;
+    let kinds = phases(plan);
+    let stripe = power(g.b) * power(g.d);
+    let each = power(g.m) / stripe;
+    Pace {
+        phase: each,
+        load: kinds * each,
+        pass: kinds * power(g.n) / stripe,
+    }
 }
 
 // The pass of a step.
-pub fn pass_of(g: Geometry, s: Step) -> u64
-    requires { ⌜ Allowed g ⌝ }
-    ensures { λ r. ⌜ r ≡ passOf (emptyRoute g) (s .0) ⌝ }
+pub fn pass_of(plan: Plan, s: Step) -> u64
+    requires { ⌜ Allowed (plan .geometry) ⌝ }
+    ensures { λ r. ⌜ r ≡ passOf (routeOf plan) (s .0) ⌝ }
 {
-    s.0 / pass_steps(g)
+    let pace = pace_of(plan);
+    s.0 / pace.pass
 }
 
-// Its turn there.
-pub(crate) fn turn_of(g: Geometry, s: Step) -> Turn
-    requires { ⌜ Allowed g ⌝ }
-    ensures { λ r. ⌜ r ≡ turnAt g (s .0) ⌝ }
+// The phase at place k of a memoryload's.
+fn phase_at(k: u64) -> Phase
+    ensures { λ r. ⌜ r ≡ phaseAt k ⌝ }
 {
-    let each = stripes(g);
-    let both = 2 * each;
-    let rest = s.0 % pass_steps(g);
-    let left = rest % both;
+    if k == 0 { Phase::Reads } else { Phase::Writes }
+}
+
+// Where in its pass a step stands, at a pace.
+pub(crate) fn turn_of(pace: Pace, s: Step) -> Turn
+    requires { ⌜ (0 < pace .phase) × (0 < pace .load) × (0 < pace .pass) ⌝ }
+    ensures { λ r. ⌜ r ≡ turnAt pace (s .0) ⌝ }
+{
+    let rest = s.0 % pace.pass;
+    let left = rest % pace.load;
     Turn {
-        load: rest / both,
-        phase: left / each,
-        turn: left % each,
+        load: rest / pace.load,
+        phase: phase_at(left / pace.phase),
+        turn: left % pace.phase,
     }
 }

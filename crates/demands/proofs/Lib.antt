@@ -1,5 +1,13 @@
-pub mod Demand1
-pub mod Demand2
-pub mod Demand3
+pub mod Promised
+pub mod Numbers
+pub mod Answers
+pub mod Sends
+pub mod OneStep
+pub mod Repeats
+pub mod Delivers
+pub mod Lines
+pub mod Demands
+pub mod Small
+pub mod Useless
 pub mod Possible
 pub mod Trials

@@ -1,95 +1,212 @@
--- The demands speak of something: proved. Assumes nothing.
+-- Why do the demands speak of something? An order that moves something is taken, and a line with repeats and refused calls comes to the end. Assumes nothing.
 use mathlib.Core.Path.{_≡_, refl, sym, ap, _∙_, subst}
-use mathlib.Core.Bool.{Bool, true, false, not, _&&_}
+use mathlib.Core.Bool.{true, false, cond, not, _&&_}
 use mathlib.Core.Logic.{⊎-elim}
-use mathlib.Core.List.{_++_}
-use Prim.Native.Nat.{ℕ, _+_, _-_, _^_, _≤_, _<_}
+use mathlib.Core.List.{List, [], _∷_, _++_}
+use Prim.Native.Nat.{ℕ, zero, suc, _+_, _-_, _^_, _≤_, _<_}
+use native.Mathlib.Nat.{add-assoc, le-refl, zero-add}
 use native.Mathlib.Omega.{arith}
 use borrow.Author.Tests.{eq-eqb, le-leb, lt-leb}
+use lib.Bits.{bitXor}
 use lib.Dec.{eqb, leb}
-use lib.ListN.{length, getD, take, replicate, List·getD-append}
-use lib.Pow.{pow-lt, pow-pos}
+use lib.ListN.{getD, take, replicate, List·getD-append}
+use lib.Pow.{pow-lt}
 use lib.Seq.{take-append-seam, getD-append-add}
 use Rattle.bank.specs.Limits.{ROWS}
 use Rattle.bank.specs.declared.Geometry.{Geometry}
 use Rattle.bank.specs.Geometry.{inLimits, records}
 use Rattle.bank.proofs.Limits.{limits→allowed}
-use Rattle.algebra.specs.Matrix.{identity, kills, singular}
+use Rattle.algebra.specs.Matrix.{identity, singular}
 use Rattle.algebra.proofs.Search.{none-intro, le-or-lt}
 use Rattle.algebra.proofs.Lists.{getD-zeros}
-use Rattle.algebra.proofs.Linear.{apply-identity}
-use Rattle.algebra.proofs.Singular.{kills-elim}
+use Rattle.algebra.proofs.Linear.{apply-zero}
+use Rattle.algebra.proofs.Singular.{identity-regular}
 use Rattle.algebra.proofs.Columns.{identity-at, identity-length}
-use Rattle.order.specs.declared.Order.{Order}
 use Rattle.order.specs.Order.{matrixOf, badForm, judgement, strayRow, strayComplement, spareRow}
 use Rattle.order.proofs.Judged.{regular-none}
-use Rattle.planning.specs.Pass.{total}
-use Rattle.planning.specs.Stored.{routeOf}
-use Rattle.plan.specs.Answer.{plannedFor}
-use Rattle.plan.proofs.Main.{made-accepted}
+use Rattle.planning.specs.declared.Plan.{Plan}
 use Rattle.moving.specs.Step.{Buffers, fits}
-use Rattle.moving.specs.Call.{fresh}
-use Rattle.moving.proofs.Calls.{can→ready}
-use Rattle.moving.proofs.Lines.{in-turn, no-strays}
-use Rattle.demands.specs.Possible.{Possible, Reaches, steadyLine, stillOrder}
+use Rattle.moving.specs.Call.{Moment}
+use Rattle.mover.specs.declared.step.Stepped.{Stepped}
+use Rattle.mover.specs.Promise.{numberOf, stateOf}
+use Rattle.demands.specs.Mover.{Mover, beginning}
+use Rattle.demands.specs.Chain.{Called, Chain, newSteps, then}
+use Rattle.demands.specs.Chain.Called.{asked, allowed, strayAsked, strayAllowed}
+use Rattle.demands.specs.Chain.Chain.{none, step, run, strayStep, strayRun}
+use Rattle.demands.specs.Numbers.{Ready, StepNumbers}
+use Rattle.demands.specs.Answers.{Answers}
+use Rattle.demands.specs.Sends.{sentTo}
+use Rattle.demands.specs.Delivers.{Reached}
+use Rattle.demands.specs.Possible.{Call, Comes, Possible, again, busyLine, callsOf, flipOrder, inTurn}
+use Rattle.demands.specs.Possible.Call.{asks, runs}
 
--- the identity sends only zero to zero
-pub identity-regular : (n : ℕ) → singular n (identity n) ≡ false
-unfolding singular
-identity-regular n = none-intro (kills (identity n)) (2 ^ n) (λ z h. go z h (kills (identity n) z) refl)
-  where
-    go : (z : ℕ) → z < 2 ^ n → (b : Bool) → kills (identity n) z ≡ b → b ≡ false
-    go z h true e = let k = kills-elim (identity n) z e in absurd (omega (arith, k .0, sym (apply-identity n z h) ∙ k .1))
-    go z h false e = refl
+-- ---- an order that is taken and moves something
 
-module _ (g : Geometry) (inside : inLimits g ≡ true) where
-  n-in : g .n ≤ ROWS
-  n-in = limits→allowed g inside .n-high
-
-  -- its matrix is the identity
-  pub still-matrix : matrixOf (stillOrder g) ≡ identity (g .n)
-  still-matrix =
+module _ (g : Geometry) where
+  flip-matrix : matrixOf (flipOrder g) ≡ identity (g .n)
+  flip-matrix =
       ap (λ (k : ℕ). take k (identity (g .n) ++ replicate (ROWS - g .n) 0)) (sym (identity-length (g .n)))
       ∙ take-append-seam (identity (g .n)) (replicate (ROWS - g .n) 0)
 
-  still-row : (i : ℕ) → i < g .n → getD (stillOrder g .rows) i 0 ≡ 2 ^ i
-  still-row i h =
+  flip-row : (i : ℕ) → i < g .n → getD (flipOrder g .rows) i 0 ≡ 2 ^ i
+  flip-row i h =
       List·getD-append (identity (g .n)) (replicate (ROWS - g .n) 0) 0 i (subst (λ (k : ℕ). i < k) (sym (identity-length (g .n))) h) ∙ identity-at (g .n) i h
 
-  still-spare : (i : ℕ) → g .n ≤ i → getD (stillOrder g .rows) i 0 ≡ 0
-  still-spare i h =
+  flip-spare : (i : ℕ) → g .n ≤ i → getD (flipOrder g .rows) i 0 ≡ 0
+  flip-spare i h =
       ap (λ (k : ℕ). getD (identity (g .n) ++ replicate (ROWS - g .n) 0) k 0) (omega (arith, identity-length (g .n)))
       ∙ getD-append-add (identity (g .n)) (replicate (ROWS - g .n) 0) (i - g .n) 0 ∙ getD-zeros (ROWS - g .n) (i - g .n)
 
-  still-form : badForm (stillOrder g) ≡ false
-  unfolding badForm strayRow strayComplement spareRow
-  still-form =
-      rw (
-        none-intro (λ i. leb (records g) (getD (stillOrder g .rows) i 0)) (g .n) (λ i h. lt-leb (records g) (getD (stillOrder g .rows) i 0) (subst (λ (k : ℕ). k < records g) (sym (still-row i h)) (pow-lt h))),
-        lt-leb (records g) 0 (pow-pos (g .n)),
-        none-intro (λ i. leb (g .n) i && not (eqb (getD (stillOrder g .rows) i 0) 0)) ROWS (λ i h. spare i),
-      )
-    where
-      spare : (i : ℕ) → leb (g .n) i && not (eqb (getD (stillOrder g .rows) i 0) 0) ≡ false
-      spare i =
-          ⊎-elim
-          (λ (h : g .n ≤ i). rw (le-leb (g .n) i h, eq-eqb (getD (stillOrder g .rows) i 0) 0 (still-spare i h)))
-          (λ (h : i < g .n). rw (lt-leb (g .n) i h))
-          (le-or-lt (g .n) i)
+  module _ (inside : inLimits g ≡ true) where
+    flip-form : badForm (flipOrder g) ≡ false
+    unfolding badForm strayRow strayComplement spareRow
+    flip-form =
+        rw (
+          none-intro (λ i. leb (records g) (getD (flipOrder g .rows) i 0)) (g .n) row,
+          lt-leb (records g) 1 (pow-lt {i = 0} (omega (arith, limits→allowed g inside .n-low))),
+          none-intro (λ i. leb (g .n) i && not (eqb (getD (flipOrder g .rows) i 0) 0)) ROWS (λ i h. spare i),
+        )
+      where
+        row : (i : ℕ) → i < g .n → leb (records g) (getD (flipOrder g .rows) i 0) ≡ false
+        row i h = lt-leb (records g) (getD (flipOrder g .rows) i 0) (subst (λ (k : ℕ). k < records g) (sym (flip-row i h)) (pow-lt h))
 
-  -- an order that is taken, at every geometry inside the limits
-  pub still-taken : judgement (stillOrder g) ≡ 0
-  still-taken = regular-none (stillOrder g) inside still-form (ap (singular (g .n)) still-matrix ∙ identity-regular (g .n))
+        spare : (i : ℕ) → leb (g .n) i && not (eqb (getD (flipOrder g .rows) i 0) 0) ≡ false
+        spare i =
+            ⊎-elim
+            (λ (h : g .n ≤ i). rw (le-leb (g .n) i h, eq-eqb (getD (flipOrder g .rows) i 0) 0 (flip-spare i h)))
+            (λ (h : i < g .n). rw (lt-leb (g .n) i h))
+            (le-or-lt (g .n) i)
 
--- for every order that is taken and bytes that fit, the steps in turn reach the end
-steady-reaches : (order : Order) → length (order .rows) ≡ ROWS → judgement order ≡ 0 → (v : Buffers) → fits (order .geometry) v ≡ true
-    → (more : ℕ → ℕ) → Reaches (plannedFor order .plan) v (steadyLine (plannedFor order .plan) more)
-steady-reaches order room taken v fitting more =
-    let k = made-accepted order room taken in
-    let plan = plannedFor order .plan in record {
-      ends = in-turn plan more v (can→ready plan (fresh v) (k .can-start) (subst (λ (g : Geometry). fits g v ≡ true) (sym (k .on-its-bank)) fitting));
-      strays = no-strays plan more (total (routeOf plan)) 0 (fresh v);
-    }
+    flip-taken : judgement (flipOrder g) ≡ 0
+    flip-taken = regular-none (flipOrder g) inside flip-form (ap (singular (g .n)) flip-matrix ∙ identity-regular (g .n))
+
+    flip-moves : sentTo (flipOrder g) 0 ≡ 1
+    flip-moves = ap (λ (k : ℕ). bitXor k 1) (apply-zero (matrixOf (flipOrder g)))
+
+-- ---- a chain and another from where it ended
+
+joined : {M : Mover} {plan : Plan} {m mid end : Moment} {cs ds : List Called} → Chain M plan m cs mid → Chain M plan mid ds end → Chain M plan m (cs ++ ds) end
+joined none d = d
+joined (step k r p c) d = step k r p (joined c d)
+joined (run q r p c) d = run q r p (joined c d)
+joined (strayStep stray k r p f c) d = strayStep stray k r p f (joined c d)
+joined (strayRun stray q r p f c) d = strayRun stray q r p f (joined c d)
+
+joined-steps : (cs ds : List Called) → newSteps (cs ++ ds) ≡ newSteps cs + newSteps ds
+unfolding newSteps
+joined-steps [] ds = sym (zero-add _)
+joined-steps (asked k r ∷ cs) ds = ap (λ (n : ℕ). cond (eqb (numberOf r) 0) 1 0 + n) (joined-steps cs ds) ∙ sym (add-assoc _ (newSteps cs) (newSteps ds))
+joined-steps (allowed q r ∷ cs) ds = ap (λ (n : ℕ). r .count + n) (joined-steps cs ds) ∙ sym (add-assoc _ (newSteps cs) (newSteps ds))
+joined-steps (strayAsked stray k r ∷ cs) ds = joined-steps cs ds
+joined-steps (strayAllowed stray q r ∷ cs) ds = joined-steps cs ds
+
+-- ---- a line comes to the end: it is built from its end on
+
+-- the moment m, come to from the start by calls that did j steps
+record Here (M : Mover) (plan : Plan) (v : Buffers) (j : ℕ) (m : Moment) : Type 0 where
+  calls : List Called
+  chain : Chain M plan (beginning M v) calls m
+  done : m .state .next .0 ≡ j
+
+-- from m on, these calls come to the end
+record Ahead (M : Mover) (plan : Plan) (m : Moment) (line : List Call) : Type 0 where
+  calls : List Called
+  end : Moment
+  chain : Chain M plan m calls end
+  these : callsOf calls ≡ line
+  there : end .state .next .0 ≡ M .total plan
+
+module _ (M : Mover) (answers : Answers M) (plan : Plan) (v : Buffers)
+    (lines : (cs : List Called) (end : Moment) → Chain M plan (beginning M v) cs end → Reached M plan cs end) where
+  -- wherever j steps are done, these calls come to the end
+  abbrev Onward : ℕ → List Call → Type 0
+  Onward j line = (m : Moment) → Here M plan v j m → Ahead M plan m line
+
+  -- a run with no allowance is not refused, so no call is refused by 7 or 4
+  ready : {j : ℕ} {m : Moment} → Here M plan v j m → Ready plan m
+  ready {m = m} here =
+      let r = answers .run-some plan m 0 in
+      answers .numbered .of-run plan m 0 (r .0) (r .1) (r .2) .gives-0 .0 (lines (here .calls) m (here .chain) .runs-on 0 (r .0) (r .1) (r .2))
+
+  -- more calls: the steps that they did are added
+  further : {j : ℕ} {m : Moment} → Here M plan v j m → (ds : List Called) (n : Moment) → Chain M plan m ds n → (i : ℕ) → j + newSteps ds ≡ i → Here M plan v i n
+  further {m = m} here ds n d i e =
+      let c = joined (here .chain) d in
+      record {
+        calls = here .calls ++ ds;
+        chain = c;
+        done =
+            lines _ n c .counted ∙ joined-steps (here .calls) ds
+            ∙ ap (λ (k : ℕ). k + newSteps ds) (sym (lines (here .calls) m (here .chain) .counted) ∙ here .done) ∙ e;
+      }
+
+  -- a step is asked whose number is known: only 0 does one more
+  asks-on : (number k j i : ℕ) {rest : List Call} → ((m : Moment) → Here M plan v j m → (r : Stepped) → StepNumbers M plan m k r → numberOf r ≡ number)
+      → j + cond (eqb number 0) 1 0 ≡ i → Onward i rest → Onward j (asks k ∷ rest)
+  unfolding newSteps callsOf
+  asks-on number k j i numbered e on m here =
+      let r = answers .step-some plan m k in
+      let z = numbered m here (r .0) (answers .numbered .of-step plan m k (r .0) (r .1) (r .2)) in
+      let n = then (stateOf (r .0)) (r .1) in
+      let a = on n (further here (asked k (r .0) ∷ []) n (step k (r .0) (r .2) none) i (ap (λ (s : ℕ). j + (cond (eqb s 0) 1 0 + 0)) z ∙ omega (arith, e))) in
+      record {
+        calls = asked k (r .0) ∷ a .calls;
+        end = a .end;
+        chain = step k (r .0) (r .2) (a .chain);
+        these = ap (_∷_ (asks k)) (a .these);
+        there = a .there;
+      }
+
+  asks-next : (j : ℕ) {rest : List Call} → j < M .total plan → Onward (suc j) rest → Onward j (asks j ∷ rest)
+  asks-next j h = asks-on 0 j j (suc j) (λ m here r s. s .gives-0 .1 ((ready here, h), sym (here .done))) (omega arith)
+
+  asks-again : (i j : ℕ) {rest : List Call} → j < M .total plan → Onward (suc j) rest → Onward (suc j) (again i j rest)
+  unfolding again
+  asks-again zero j h on = on
+  asks-again (suc i) j h on =
+      asks-on 9 j (suc j) (suc j) (λ m here r s. s .gives-9 .1 ((ready here, h), omega (arith, here .done))) (omega arith) (asks-again i j h on)
+
+  asks-past : (j : ℕ) {rest : List Call} → Onward j rest → Onward j (asks (M .total plan) ∷ rest)
+  asks-past j = asks-on 6 (M .total plan) j j (λ m here r s. s .gives-6 .1 (ready here, le-refl _)) (omega arith)
+
+  asks-in-turn : (more : ℕ → ℕ) (k j : ℕ) {rest : List Call} → j + k ≤ M .total plan → ((i : ℕ) → Onward i rest) → Onward j (inTurn more k j rest)
+  unfolding inTurn
+  asks-in-turn more zero j h on = on j
+  asks-in-turn more (suc k) j h on = asks-next j (omega arith) (asks-again (more j) j (omega arith) (asks-in-turn more k (suc j) (omega arith) on))
+
+  runs-all : (j : ℕ) → Onward j (runs (M .total plan) ∷ [])
+  unfolding newSteps callsOf
+  runs-all j m here =
+      let r = answers .run-some plan m (M .total plan) in
+      let at = lines (here .calls) m (here .chain) in
+      let n = then (r .0 .state) (r .1) in
+      let c = run (M .total plan) (r .0) (r .2) none in
+      record {
+        calls = allowed (M .total plan) (r .0) ∷ [];
+        end = n;
+        chain = c;
+        these = refl;
+        there =
+            further here (allowed (M .total plan) (r .0) ∷ []) n c (M .total plan)
+            (omega (arith, at .within, here .done, answers .run-done plan m (M .total plan) (r .0) (r .1) (r .2) (at .runs-on (M .total plan) (r .0) (r .1) (r .2)) .0)) .done;
+      }
+
+  start : Here M plan v 0 (beginning M v)
+  unfolding newSteps
+  start = record { calls = []; chain = none; done = lines [] (beginning M v) none .counted }
+
+  busy-comes : (k : ℕ) → k ≤ M .total plan → (more : ℕ → ℕ) → Comes M plan v (busyLine (M .total plan) k more)
+  busy-comes k h more =
+      let a = asks-past 0 (asks-in-turn more k 0 (omega arith) (λ i. asks-past i (runs-all i))) (beginning M v) start in
+      record { calls = a .calls; end = a .end; chain = a .chain; these = a .these; there = a .there }
 
 pub possible : Possible
-possible = record { some-order = still-taken; some-line = steady-reaches }
+possible =
+    record {
+      taken = flip-taken;
+      moves = flip-moves;
+      comes = λ M answers delivers order room taken v fitting.
+          let own = delivers .own order room taken in
+          busy-comes M answers (M .plans order .plan) v
+          (delivers .carries (M .plans order .plan) (own .runs) .lines v (subst (λ (g : Geometry). fits g v ≡ true) (sym (own .on-its-bank)) fitting));
+    }

@@ -1,6 +1,16 @@
--- The three demands, and the trial orders.
-pub mod Demand1
-pub mod Demand2
-pub mod Demand3
+-- The demands of any mover, which mover is ours, and which ones are of no use.
+pub mod Mover
+pub mod Ours
+pub mod Chain
+pub mod Numbers
+pub mod Answers
+pub mod Sends
+pub mod OneStep
+pub mod Repeats
+pub mod Delivers
+pub mod Demands
+pub mod Counts
+pub mod Lines
+pub mod Useless
 pub mod Possible
 pub mod Trials

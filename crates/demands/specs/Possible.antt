@@ -1,38 +1,71 @@
--- Do the demands speak of anything? At every geometry inside the limits an order is taken, and for every order that is taken a line reaches the end.
+-- Do the demands speak of anything? At every geometry inside the limits an order that moves something is taken,
+-- and every mover that has demands 1 and 3 comes to the end of each order that it takes.
 -- Assumes nothing.
 use mathlib.Core.Path.{_≡_}
 use mathlib.Core.Bool.{true}
-use mathlib.Core.List.{List, _++_}
-use Prim.Native.Nat.{ℕ, _-_}
+use mathlib.Core.List.{List, [], _∷_, _++_}
+use Prim.Native.Nat.{ℕ, zero, suc, _-_, _≤_}
 use lib.ListN.{length, replicate}
 use Rattle.bank.specs.Limits.{ROWS}
 use Rattle.bank.specs.declared.Geometry.{Geometry}
 use Rattle.bank.specs.Geometry.{inLimits}
 use Rattle.algebra.specs.Matrix.{identity}
 use Rattle.order.specs.declared.Order.{Order}
-use Rattle.order.specs.Order.{judgement}
 use Rattle.planning.specs.declared.Plan.{Plan}
-use Rattle.planning.specs.Pass.{total}
-use Rattle.planning.specs.Stored.{routeOf}
-use Rattle.plan.specs.Answer.{plannedFor}
 use Rattle.moving.specs.Step.{Buffers, fits}
-use Rattle.moving.specs.Call.{fresh}
-use Rattle.moving.specs.Line.{Call, inTurn, afterCalls, straysRefused}
+use Rattle.moving.specs.Call.{Moment}
+use Rattle.demands.specs.Mover.{Mover, beginning}
+use Rattle.demands.specs.Ours.{ours}
+use Rattle.demands.specs.Chain.{Called, Chain}
+use Rattle.demands.specs.Chain.Called.{asked, allowed, strayAsked, strayAllowed}
+use Rattle.demands.specs.Answers.{Answers}
+use Rattle.demands.specs.Sends.{sentTo}
+use Rattle.demands.specs.Delivers.{Delivers}
 
--- the order that moves nothing
-abbrev pub stillOrder : Geometry → Order
-stillOrder g = record { geometry = g; rows = identity (g .n) ++ replicate (ROWS - g .n) 0; complement = 0 }
+-- the order that sends x to x xor 1
+abbrev pub flipOrder : Geometry → Order
+flipOrder g = record { geometry = g; rows = identity (g .n) ++ replicate (ROWS - g .n) 0; complement = 1 }
 
--- the line that asks for each step of a plan in turn, each again as often as `more` says
-abbrev pub steadyLine : Plan → (ℕ → ℕ) → List Call
-steadyLine plan more = inTurn more (total (routeOf plan)) 0
+-- ---- a line with repeats, refused calls and runs in it
 
--- a line that reaches the end of a plan, its stray calls refused
-pub record Reaches (plan : Plan) (v : Buffers) (cs : List Call) : Type 0 where
-  pub ends : afterCalls plan (fresh v) cs .next ≡ total (routeOf plan)
-  pub strays : straysRefused plan (fresh v) cs ≡ true
+-- a line's own call, its answer left open
+pub data Call : Type 0 where
+  asks : ℕ → Call
+  runs : ℕ → Call
 
-pub record Possible : Type 0 where
-  pub some-order : (g : Geometry) → inLimits g ≡ true → judgement (stillOrder g) ≡ 0
-  pub some-line : (order : Order) → length (order .rows) ≡ ROWS → judgement order ≡ 0 → (v : Buffers) → fits (order .geometry) v ≡ true
-      → (more : ℕ → ℕ) → Reaches (plannedFor order .plan) v (steadyLine (plannedFor order .plan) more)
+-- the line's own calls of a chain
+unfoldable pub callsOf : List Called → List Call
+callsOf [] = []
+callsOf (asked k answer ∷ cs) = asks k ∷ callsOf cs
+callsOf (allowed q answer ∷ cs) = runs q ∷ callsOf cs
+callsOf (strayAsked stray k answer ∷ cs) = callsOf cs
+callsOf (strayAllowed stray q answer ∷ cs) = callsOf cs
+
+-- step j asked i times, and then the rest
+unfoldable pub again : ℕ → ℕ → List Call → List Call
+again zero j rest = rest
+again (suc i) j rest = asks j ∷ again i j rest
+
+-- the k steps from j on, each asked once and then as often more as `more` says; and then the rest
+unfoldable pub inTurn : (ℕ → ℕ) → ℕ → ℕ → List Call → List Call
+inTurn more zero j rest = rest
+inTurn more (suc k) j rest = asks j ∷ again (more j) j (inTurn more k (suc j) rest)
+
+-- a step asked past the total; k steps in turn, with repeats; past the total again; and a run of all that is left
+abbrev pub busyLine : ℕ → ℕ → (ℕ → ℕ) → List Call
+busyLine all k more = asks all ∷ inTurn more k 0 (asks all ∷ runs all ∷ [])
+
+-- a chain of these calls from the start to the end
+pub record Comes (M : Mover) (plan : Plan) (v : Buffers) (line : List Call) : Type 0 where
+  pub calls : List Called
+  pub end : Moment
+  pub chain : Chain M plan (beginning M v) calls end
+  pub these : callsOf calls ≡ line
+  pub there : end .state .next .0 ≡ M .total plan
+
+pub record Possible : Type 1 where
+  pub taken : (g : Geometry) → inLimits g ≡ true → ours .judges (flipOrder g) ≡ 0
+  pub moves : (g : Geometry) → inLimits g ≡ true → sentTo (flipOrder g) 0 ≡ 1
+  pub comes : (M : Mover) → Answers M → Delivers M → (order : Order) → length (order .rows) ≡ ROWS → M .judges order ≡ 0
+      → (v : Buffers) → fits (order .geometry) v ≡ true → (k : ℕ) → k ≤ M .total (M .plans order .plan) → (more : ℕ → ℕ)
+      → Comes M (M .plans order .plan) v (busyLine (M .total (M .plans order .plan)) k more)

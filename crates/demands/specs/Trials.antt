@@ -1,17 +1,20 @@
--- What do the definitions say of the trial orders? The table; its one theorem is in proofs/Trials.antt. Assumes nothing.
+-- What do our calls answer for the trial orders? The table; its one theorem is in proofs/Trials.antt. Assumes nothing.
 use mathlib.Core.Bool.{Bool, true, false, _&&_}
 use mathlib.Core.List.{List, [], _∷_, _++_}
-use Prim.Native.Nat.{ℕ, zero, suc, _-_}
+use Prim.Native.Nat.{ℕ, zero, suc, _+_, _-_, _*_}
 use lib.Dec.{eqb}
 use lib.ListN.{length, replicate}
-use Rattle.bank.specs.Limits.{ROWS}
+use Rattle.bank.specs.Limits.{ROWS, PASSES}
+use Rattle.bank.specs.declared.Geometry.{Geometry}
 use Rattle.order.specs.declared.Order.{Order}
-use Rattle.order.specs.Order.{matrixOf}
-use Rattle.order.specs.Address.{targetOf}
-use Rattle.planning.specs.Pass.{Pass, total}
-use Rattle.planning.specs.Making.{passesFor}
+use Rattle.order.specs.declared.address.Target.{Target}
+use Rattle.planning.specs.declared.Plan.{Plan}
+use Rattle.planning.specs.Pass.{Pass}
+use Rattle.planning.specs.Stored.{routeOf}
+use Rattle.plan.specs.declared.make.Planned.{Planned}
+use Rattle.demands.specs.Ours.{ours}
 
--- a trial: an order and an address; the number and the target that are given back, the passes and their steps, and the rows of each pass where they are listed
+-- a trial: an order and an address; the number and the target that are given back; how many passes and steps, the area of the result, and the passes, if listed
 pub record Trial : Type 0 where
   pub order : Order
   pub address : ℕ
@@ -19,34 +22,51 @@ pub record Trial : Type 0 where
   pub target : ℕ
   pub passes : ℕ
   pub steps : ℕ
-  pub listed : List (List ℕ)
+  pub area : ℕ
+  pub listed : List Pass
 
-abbrev pub sameRows : List ℕ → List ℕ → Bool
-sameRows [] [] = true
-sameRows [] (y ∷ ys) = false
-sameRows (x ∷ xs) [] = false
-sameRows (x ∷ xs) (y ∷ ys) = eqb x y && sameRows xs ys
+-- the same numbers, and as many
+abbrev pub same : List ℕ → List ℕ → Bool
+same [] [] = true
+same [] (y ∷ ys) = false
+same (x ∷ xs) [] = false
+same (x ∷ xs) (y ∷ ys) = eqb x y && same xs ys
 
-abbrev pub asListed : List (List ℕ) → List Pass → Bool
+-- each listed pass has its rows and its complement; a trial may list none
+abbrev pub asListed : List Pass → List Pass → Bool
 asListed [] ps = true
-asListed (r ∷ rs) [] = false
-asListed (r ∷ rs) (p ∷ ps) = sameRows r (p .rows) && asListed rs ps
+asListed (l ∷ ls) [] = false
+asListed (l ∷ ls) (p ∷ ps) = same (l .rows) (p .rows) && eqb (l .complement) (p .complement) && asListed ls ps
 
--- the passes are as many, as long and as listed
-abbrev pub asPlanned : Trial → List Pass → Bool
-asPlanned t ps = eqb (length ps) (t .passes) && eqb (total (record { geometry = t .order .geometry; passes = ps })) (t .steps) && asListed (t .listed) ps
+-- the numbers of a geometry
+abbrev pub sizes : Geometry → List ℕ
+sizes g = g .n ∷ g .b ∷ g .d ∷ g .m ∷ g .r ∷ []
 
--- an order that is refused has no plan
-abbrev pub planned : ℕ → Trial → Bool
-planned zero t = asPlanned t (passesFor (t .order .geometry) (matrixOf (t .order)) (t .order .complement))
-planned (suc k) t = true
+-- every number that a plan holds: six, the rows and the complements
+abbrev pub held : Plan → List ℕ
+held plan = sizes (plan .geometry) ++ (plan .count ∷ (plan .rows ++ plan .complements))
+
+-- with 0 the plan is for the order's bank, and has its passes, steps and area of the result; with a refusal it is zero everywhere
+abbrev pub asPlanned : ℕ → Trial → Plan → Bool
+asPlanned zero t plan =
+    same (sizes (plan .geometry)) (sizes (t .order .geometry)) && eqb (plan .count) (t .passes) && eqb (ours .total plan) (t .steps)
+    && eqb (ours .area plan) (t .area) && asListed (t .listed) (routeOf plan .passes)
+asPlanned (suc k) t plan = same (held plan) (replicate (6 + PASSES * ROWS + PASSES) 0)
+
+-- what a planning call answers
+abbrev pub planned : Trial → Planned → Bool
+planned t answer = eqb (answer .number) (t .number) && asPlanned (t .number) t (answer .plan)
+
+-- what an address call answers
+abbrev pub sends : Trial → Target → Bool
+sends t answer = eqb (answer .number) (t .number) && eqb (answer .address .0) (t .target)
 
 abbrev pub right : Trial → Bool
-right t = eqb (targetOf (t .order) (t .address) .number) (t .number) && eqb (targetOf (t .order) (t .address) .address .0) (t .target) && planned (t .number) t
+right t = sends t (ours .sends (t .order) (t .address)) && planned t (ours .plans (t .order))
 
-abbrev pub all : List Trial → Bool
-all [] = true
-all (t ∷ ts) = right t && all ts
+abbrev pub allRight : List Trial → Bool
+allRight [] = true
+allRight (t ∷ ts) = right t && allRight ts
 
 -- n b d m R, the rows, c
 abbrev order : ℕ → ℕ → ℕ → ℕ → ℕ → List ℕ → ℕ → Order
@@ -56,22 +76,29 @@ order n b d m r rows c = record { geometry = record { n = n; b = b; d = d; m = m
 abbrev four : List ℕ → ℕ → Order
 four rows c = order 4 1 1 2 8 rows c
 
-abbrev sent : Order → ℕ → ℕ → ℕ → ℕ → List (List ℕ) → Trial
-sent o x y passes steps listed = record { order = o; address = x; number = 0; target = y; passes = passes; steps = steps; listed = listed }
+abbrev sent : Order → ℕ → ℕ → ℕ → ℕ → ℕ → List Pass → Trial
+sent o x y passes steps area listed = record { order = o; address = x; number = 0; target = y; passes = passes; steps = steps; area = area; listed = listed }
 
 abbrev refused : Order → ℕ → Trial
-refused o k = record { order = o; address = 0; number = k; target = 0; passes = 0; steps = 0; listed = [] }
+refused o k = record { order = o; address = 0; number = k; target = 0; passes = 0; steps = 0; area = 0; listed = [] }
+
+abbrev pass : List ℕ → ℕ → Pass
+pass rows c = record { rows = rows; complement = c }
 
 abbrev reversal : List ℕ
 reversal = 8 ∷ 4 ∷ 2 ∷ 1 ∷ []
 
 -- row i of each pass of the reversal: a number whose bit j is character j of the listing's line
-abbrev reversalPasses : List (List ℕ)
-reversalPasses = (5 ∷ 10 ∷ 4 ∷ 2 ∷ []) ∷ (2 ∷ 1 ∷ 5 ∷ 8 ∷ []) ∷ (9 ∷ 6 ∷ 8 ∷ 4 ∷ []) ∷ []
+abbrev reversalPasses : List Pass
+reversalPasses = pass (5 ∷ 10 ∷ 4 ∷ 2 ∷ []) 0 ∷ pass (2 ∷ 1 ∷ 5 ∷ 8 ∷ []) 0 ∷ pass (9 ∷ 6 ∷ 8 ∷ 4 ∷ []) 0 ∷ []
+
+abbrev unmoved : List ℕ
+unmoved = 1 ∷ 2 ∷ 4 ∷ 8 ∷ []
 
 abbrev pub trials : List Trial
 trials =
-    sent (four reversal 0) 1 8 3 24 reversalPasses ∷ sent (four reversal 0) 3 12 3 24 [] ∷ sent (four reversal 0) 6 6 3 24 []
-    ∷ sent (four (1 ∷ 2 ∷ 4 ∷ 8 ∷ []) 15) 5 10 1 8 [] ∷ sent (four (3 ∷ 6 ∷ 12 ∷ 8 ∷ []) 0) 5 7 1 8 [] ∷ sent (four (4 ∷ 8 ∷ 1 ∷ 2 ∷ []) 0) 1 4 3 24 []
-    ∷ sent (order 2 0 0 1 8 (2 ∷ 1 ∷ []) 0) 1 2 2 16 [] ∷ refused (order 2 0 0 1 8 (3 ∷ 3 ∷ []) 0) 3 ∷ refused (order 2 0 0 1 8 (0 ∷ 0 ∷ []) 0) 3
+    sent (four reversal 0) 1 8 3 24 1 reversalPasses ∷ sent (four reversal 0) 3 12 3 24 1 [] ∷ sent (four reversal 0) 6 6 3 24 1 []
+    ∷ sent (four unmoved 15) 5 10 1 8 1 (pass unmoved 15 ∷ []) ∷ sent (four (3 ∷ 6 ∷ 12 ∷ 8 ∷ []) 0) 5 7 1 8 1 []
+    ∷ sent (four (4 ∷ 8 ∷ 1 ∷ 2 ∷ []) 0) 1 4 3 24 1 [] ∷ sent (order 2 0 0 1 8 (2 ∷ 1 ∷ []) 0) 1 2 2 16 0 []
+    ∷ refused (order 2 0 0 1 8 (3 ∷ 3 ∷ []) 0) 3 ∷ refused (order 2 0 0 1 8 (0 ∷ 0 ∷ []) 0) 3
     ∷ refused (order 4 2 0 2 8 reversal 0) 1 ∷ refused (order 4 1 1 4 8 reversal 0) 1 ∷ refused (four (16 ∷ 2 ∷ 4 ∷ 8 ∷ []) 0) 2 ∷ []

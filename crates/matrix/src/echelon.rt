@@ -4,6 +4,7 @@ ghost use Prim.Native.Nat.{_<_, _≤_};
 ghost use lib.Bits.{bitXor};
 ghost use lib.Count.{trailingZeros};
 ghost use Rattle.bank.specs.Limits.{ROWS};
+ghost use Rattle.algebra.specs.Vector.{WORD};
 ghost use Rattle.algebra.specs.Elimination.{rest, used, noEntries, grown, built};
 ghost use Rattle.matrix.specs.Echelon.{echelonOf};
 use crate::vector::bit_of;
@@ -60,14 +61,14 @@ pub fn reduce(e: Echelon, v: u32, t: u32) -> Reduced
 
 // The lowest set bit of x.
 pub fn lowest(x: u32) -> u32
-    ensures { λ r. ⌜ r ≡ trailingZeros 32 x ⌝ }
+    ensures { λ r. ⌜ r ≡ trailingZeros WORD x ⌝ }
 {
     u32::trailing_zeros(x)
 }
 
 // The entries after column j, too.
 pub fn grow(e: Echelon, j: u32, column: u32) -> Echelon
-    requires { ⌜ (e .count < ROWS) × (j < 32) ⌝ }
+    requires { ⌜ (e .count < ROWS) × (j < WORD) ⌝ }
     ensures { λ r. ⌜ echelonOf r ≡ grown (echelonOf e) j column ⌝ }
 {
     let r = reduce(e, column, power(j));

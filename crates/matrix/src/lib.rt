@@ -1,4 +1,4 @@
-// Matrices over GF(2) as arrays of rows, 32 bits a row, and the one elimination that answers every question about them.
+// Matrices over GF(2) as arrays of rows, a word each, and the one elimination that answers every question about them.
 // A row is a number whose bit j is its entry in column j. The functions take rows with room for ROWS of them and say how many count.
 pub mod vector; // vector.rt: bits, parities, sums
 pub mod rows; // rows.rt: a matrix applied to an address, its columns, products

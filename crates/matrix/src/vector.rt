@@ -3,8 +3,9 @@ ghost use mathlib.Core.Path.{_≡_};
 ghost use Prim.Native.Nat.{_<_, _≤_, _^_};
 ghost use lib.ListN.{take};
 ghost use Rattle.bank.specs.Limits.{ROWS};
-ghost use Rattle.algebra.specs.Vector.{parity, bit, times, comb};
+ghost use Rattle.algebra.specs.Vector.{WORD, parity, bit, times, comb};
 use bank::ROWS;
+use bank::WORD;
 
 // The parity of x.
 pub(crate) fn parity(x: u32) -> u32
@@ -17,7 +18,7 @@ pub(crate) fn parity(x: u32) -> u32
 pub fn bit_of(v: u32, q: u32) -> u32
     ensures { λ r. ⌜ r ≡ bit v q ⌝ }
 {
-    if q < 32 { (v >> q) % 2 } else { 0 }
+    if q < WORD { (v >> q) % 2 } else { 0 }
 }
 
 // Nothing where d is 0, and v where it is not.
@@ -29,7 +30,7 @@ pub fn times(d: u32, v: u32) -> u32
 
 // 2 to the j.
 pub fn power(j: u32) -> u32
-    requires { ⌜ j < 32 ⌝ }
+    requires { ⌜ j < WORD ⌝ }
     ensures { λ r. ⌜ r ≡ 2 ^ j ⌝ }
 {
     1u32 << j

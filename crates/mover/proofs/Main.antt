@@ -4,8 +4,8 @@ use mathlib.Core.Bool.{Bool, true, false, cond}
 use Prim.Native.Nat.{ℕ}
 use borrow.Author.Tests.{eqb-true}
 use lib.Dec.{eqb}
+use Rattle.planning.specs.declared.state.State.{State}
 use Rattle.mover.specs.Promise.{caseOf, numberOf, stateOf}
-use Rattle.mover.specs.declared.state.State.{State}
 use Rattle.mover.specs.declared.step.Stepped.the-variants.{Done, Again, Refused}
 
 pub case-number : (k : ℕ) (s : State) → numberOf (caseOf k s) ≡ k

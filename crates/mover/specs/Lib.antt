@@ -1,4 +1,3 @@
--- The state, what the calls for steps and runs promise, and their numbers by lengths alone.
-pub mod State
+-- What the calls for steps and runs promise, and their numbers by lengths alone.
 pub mod Promise
 pub mod Numbers

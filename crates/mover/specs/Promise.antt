@@ -4,20 +4,12 @@ use mathlib.Core.Bool.{cond}
 use Prim.Native.Nat.{ℕ}
 use lib.Dec.{eqb}
 use Rattle.planning.specs.declared.Plan.{Plan}
+use Rattle.planning.specs.declared.state.State.{State}
 use Rattle.moving.specs.Step.{Buffers}
 use Rattle.moving.specs.Call.{Moment, stepNumber, stepped, runNumber, runCount, ran}
-use Rattle.mover.specs.declared.state.State.{State}
 use Rattle.mover.specs.declared.step.Stepped.{Stepped}
 use Rattle.mover.specs.declared.step.Stepped.the-variants.{Done, Again, Refused}
 use Rattle.mover.specs.declared.run.Ran.{Ran}
-
--- the state and the lent bytes: a moment of the line
-abbrev pub momentOf : State → Buffers → Moment
-momentOf state v = record { next = state .next .0; buffers = v }
-
--- the state of a moment
-abbrev pub stateAt : Moment → State
-stateAt moment = record { next = record { 0 = moment .next } }
 
 -- the number and the state of each case of a step's answer
 unfoldable pub numberOf : Stepped → ℕ
@@ -35,13 +27,13 @@ unfoldable pub caseOf : ℕ → State → Stepped
 caseOf k s = cond (eqb k 0) (Done s) (cond (eqb k 9) (Again s) (Refused k s))
 
 -- a step call: by its number, the state and the bytes that follow
-pub record StepPromise (plan : Plan) (state : State) (asked : ℕ) (v : Buffers) (answer : Stepped) (v′ : Buffers) : Type 0 where
-  pub answered : answer ≡ caseOf (stepNumber plan (momentOf state v) asked) (stateAt (stepped plan (momentOf state v) asked))
-  pub bytes : v′ ≡ stepped plan (momentOf state v) asked .buffers
+pub record StepPromise (plan : Plan) (before : Moment) (asked : ℕ) (answer : Stepped) (after : Buffers) : Type 0 where
+  pub answered : answer ≡ caseOf (stepNumber plan before asked) (stepped plan before asked .state)
+  pub bytes : after ≡ stepped plan before asked .buffers
 
 -- a run: its number, the steps it did, the state and the bytes that follow
-pub record RunPromise (plan : Plan) (state : State) (q : ℕ) (v : Buffers) (answer : Ran) (v′ : Buffers) : Type 0 where
-  pub number : answer .number ≡ runNumber plan (momentOf state v)
-  pub count : answer .count ≡ runCount plan (momentOf state v) q
-  pub state′ : answer .state ≡ stateAt (ran plan (momentOf state v) q)
-  pub bytes : v′ ≡ ran plan (momentOf state v) q .buffers
+pub record RunPromise (plan : Plan) (before : Moment) (q : ℕ) (answer : Ran) (after : Buffers) : Type 0 where
+  pub number : answer .number ≡ runNumber plan before
+  pub count : answer .count ≡ runCount plan before q
+  pub state′ : answer .state ≡ ran plan before q .state
+  pub bytes : after ≡ ran plan before q .buffers

@@ -1,4 +1,3 @@
 // Steps and runs on lent bytes.
 pub mod run; // run.rt: a run with an allowance
-pub mod state; // state.rt: the state, which goes in and comes back
 pub mod step; // step.rt: a step that is asked for

@@ -2,19 +2,19 @@
 ghost use mathlib.Core.Path.{_≡_};
 ghost use Prim.Native.Nat.{_+_, _<_, _^_, min};
 ghost use Rattle.planning.specs.Stored.{routeOf};
-ghost use Rattle.moving.specs.Call.{movesFrom};
+ghost use Rattle.moving.specs.Call.{lent, movesFrom};
 ghost use Rattle.blocks.specs.Moving.{MoveReady, StepsReady, movesBy};
 ghost use Rattle.mover.specs.Promise.{RunPromise};
 ghost use Rattle.moving.specs.Step.{buffersOf};
-use crate::state::State;
 use crate::step::ready_number;
 use bank::Step;
 use blocks::moves::move_step;
 use blocks::tables::Tables;
 use blocks::tables::tables_of;
-use blocks::turns::pass_steps;
+use blocks::turns::pace_of;
 use plan::running::total_steps;
 use planning::Plan;
+use planning::state::State;
 
 // The number, the steps that were done, and the state that follows.
 pub struct Ran {
@@ -40,7 +40,8 @@ fn run_pass(
     memory: &mut [u8],
 )
     requires { ⌜ MoveReady t (buffersOf (now area0) (now area1) (now memory)) × (first .0 + count < 2 ^ 64) ⌝ }
-    ensures { λ _. ⌜ buffersOf (now (area0 .exit)) (now (area1 .exit)) (now (memory .exit)) ≡ movesBy t (first .0) count (buffersOf (now (area0 .entry)) (now (area1 .entry)) (now (memory .entry))) ⌝ }
+    ensures { λ _. ⌜ buffersOf (now (area0 .exit)) (now (area1 .exit)) (now (memory .exit))
+        ≡ movesBy t (first .0) count (buffersOf (now (area0 .entry)) (now (area1 .entry)) (now (memory .entry))) ⌝ }
 {
     let mut i: u64 = 0;
     while i < count {
@@ -60,9 +61,10 @@ fn run_steps(
     memory: &mut [u8],
 )
     requires { ⌜ StepsReady plan (first .0) count (buffersOf (now area0) (now area1) (now memory)) ⌝ }
-    ensures { λ _. ⌜ buffersOf (now (area0 .exit)) (now (area1 .exit)) (now (memory .exit)) ≡ movesFrom (routeOf plan) (first .0) count (buffersOf (now (area0 .entry)) (now (area1 .entry)) (now (memory .entry))) ⌝ }
+    ensures { λ _. ⌜ buffersOf (now (area0 .exit)) (now (area1 .exit)) (now (memory .exit))
+        ≡ movesFrom (routeOf plan) (first .0) count (buffersOf (now (area0 .entry)) (now (area1 .entry)) (now (memory .entry))) ⌝ }
 {
-    let each = pass_steps(plan.geometry);
+    let each = pace_of(plan).pass;
     let mut done: u64 = 0;
     while done < count {
         let s = first.0 + done;
@@ -83,10 +85,10 @@ pub fn run(
     area1: &mut [u8],
     memory: &mut [u8],
 ) -> Ran
-    ensures { λ r. ⌜ RunPromise plan state allowance (buffersOf (now (area0 .entry)) (now (area1 .entry)) (now (memory .entry))) r (buffersOf (now (area0 .exit)) (now (area1 .exit)) (now (memory .exit))) ⌝ }
+    ensures { λ r. ⌜ RunPromise plan (lent state (now (area0 .entry)) (now (area1 .entry)) (now (memory .entry))) allowance r
+        (buffersOf (now (area0 .exit)) (now (area1 .exit)) (now (memory .exit))) ⌝ }
 {
-    let next = state.next;
-    let number = ready_number(plan, next, area0.len(), area1.len(), memory.len());
+    let number = ready_number(plan, state, area0.len(), area1.len(), memory.len());
     if number != 0 {
         let s = state.kept();
         return Ran {
@@ -95,6 +97,7 @@ pub fn run(
             state: s,
         };
     }
+    let next = state.next;
     let all = total_steps(plan);
     let left = all - next.0;
     let count = least(allowance, left);

@@ -3,12 +3,11 @@ ghost use mathlib.Core.Path.{_≡_};
 ghost use Rattle.bank.specs.Geometry.{Allowed};
 ghost use Rattle.planning.specs.Pass.{total};
 ghost use Rattle.planning.specs.Stored.{routeOf};
-ghost use Rattle.moving.specs.Call.{turnNumber};
+ghost use Rattle.moving.specs.Call.{lent, turnNumber};
 ghost use Rattle.mover.specs.Numbers.{lengthsFit, readyBy};
 ghost use Rattle.blocks.specs.Moving.{StepsReady};
 ghost use Rattle.mover.specs.Promise.{StepPromise};
 ghost use Rattle.moving.specs.Step.{buffersOf, move};
-use crate::state::State;
 use bank::Geometry;
 use bank::Step;
 use bank::power;
@@ -19,6 +18,7 @@ use blocks::turns::pass_of;
 use plan::running::can_run;
 use plan::running::total_steps;
 use planning::Plan;
+use planning::state::State;
 
 // Done, done again (9), or refused by a number; each with the state that follows.
 pub enum Stepped {
@@ -44,10 +44,16 @@ fn lengths_fit(g: Geometry, area0: usize, area1: usize, memory: usize) -> bool
 }
 
 // What is checked before a step or a run: 7, the plan can't run; 4, a buffer isn't of its length.
-pub(crate) fn ready_number(plan: Plan, next: Step, area0: usize, area1: usize, memory: usize) -> u8
-    ensures { λ r. ⌜ r ≡ readyBy plan (next .0) area0 area1 memory 0 ⌝ }
+pub(crate) fn ready_number(
+    plan: Plan,
+    state: State,
+    area0: usize,
+    area1: usize,
+    memory: usize,
+) -> u8
+    ensures { λ r. ⌜ r ≡ readyBy plan state area0 area1 memory 0 ⌝ }
 {
-    if !can_run(plan, next) {
+    if !can_run(plan, state) {
         return 7;
     }
     if !lengths_fit(plan.geometry, area0, area1, memory) {
@@ -75,22 +81,31 @@ fn turn_number(all: u64, next: Step, asked: Step) -> u8
 }
 
 // The number of a step call.
-fn step_number(plan: Plan, next: Step, asked: Step, area0: usize, area1: usize, memory: usize) -> u8
-    ensures { λ r. ⌜ r ≡ readyBy plan (next .0) area0 area1 memory (turnNumber (total (routeOf plan)) (next .0) (asked .0)) ⌝ }
+fn step_number(
+    plan: Plan,
+    state: State,
+    asked: Step,
+    area0: usize,
+    area1: usize,
+    memory: usize,
+) -> u8
+    ensures { λ r. ⌜ r ≡ readyBy plan state area0 area1 memory (turnNumber (total (routeOf plan)) (state .next .0) (asked .0)) ⌝ }
 {
-    let ready = ready_number(plan, next, area0, area1, memory);
+    let ready = ready_number(plan, state, area0, area1, memory);
     if ready != 0 {
         return ready;
     }
+    let next = state.next;
     turn_number(total_steps(plan), next, asked)
 }
 
 // The move of a step that the plan has.
 fn move_asked(plan: Plan, asked: Step, area0: &mut [u8], area1: &mut [u8], memory: &mut [u8])
     requires { ⌜ StepsReady plan (asked .0) 1 (buffersOf (now area0) (now area1) (now memory)) ⌝ }
-    ensures { λ _. ⌜ buffersOf (now (area0 .exit)) (now (area1 .exit)) (now (memory .exit)) ≡ move (routeOf plan) (asked .0) (buffersOf (now (area0 .entry)) (now (area1 .entry)) (now (memory .entry))) ⌝ }
+    ensures { λ _. ⌜ buffersOf (now (area0 .exit)) (now (area1 .exit)) (now (memory .exit))
+        ≡ move (routeOf plan) (asked .0) (buffersOf (now (area0 .entry)) (now (area1 .entry)) (now (memory .entry))) ⌝ }
 {
-    let p = pass_of(plan.geometry, asked);
+    let p = pass_of(plan, asked);
     let t = tables_of(plan, p);
     move_step(t, asked, area0, area1, memory);
 }
@@ -104,10 +119,10 @@ pub fn step(
     area1: &mut [u8],
     memory: &mut [u8],
 ) -> Stepped
-    ensures { λ r. ⌜ StepPromise plan state (asked .0) (buffersOf (now (area0 .entry)) (now (area1 .entry)) (now (memory .entry))) r (buffersOf (now (area0 .exit)) (now (area1 .exit)) (now (memory .exit))) ⌝ }
+    ensures { λ r. ⌜ StepPromise plan (lent state (now (area0 .entry)) (now (area1 .entry)) (now (memory .entry))) (asked .0) r
+        (buffersOf (now (area0 .exit)) (now (area1 .exit)) (now (memory .exit))) ⌝ }
 {
-    let next = state.next;
-    let k = step_number(plan, next, asked, area0.len(), area1.len(), memory.len());
+    let k = step_number(plan, state, asked, area0.len(), area1.len(), memory.len());
     if k == 0 {
         move_asked(plan, asked, area0, area1, memory);
         let s = state.advanced(1);

@@ -2,12 +2,14 @@
 use mathlib.Core.Path.{_∙_, _≡_, ap, ap₂, refl}
 use mathlib.Core.Bool.{Bool, false, not, true}
 use mathlib.Core.List.{List}
-use Prim.Native.Nat.{suc, zero, ℕ}
+use Prim.Native.Nat.{ℕ}
 use Rattle.bank.specs.declared.Geometry.{Geometry}
 use Rattle.moving.proofs.Bytes.{copied-again}
 use Rattle.moving.specs.Bytes.{copied}
 use Rattle.moving.specs.Number.{loadOf, passOf, phaseOf, turnOf}
 use Rattle.moving.specs.Step.{Buffers, areaBy, areaOf, byPhase, even, move, readFrom, readMove, readTakes, withAreaBy, withMemory, writeFrom, writeMove, writeTakes}
+use Rattle.planning.specs.declared.Phase.{Phase}
+use Rattle.planning.specs.declared.Phase.the-variants.{Reads, Writes}
 use Rattle.planning.specs.Pass.{Pass, Route, passAt}
 
 -- ---- the areas
@@ -56,10 +58,10 @@ write-again g pass p load t v =
     w : Buffers
     w = withAreaBy (not (even p)) (into (v .memory) (areaBy (not (even p)) v)) v
 
-by-phase : (k : ℕ) (f h : Buffers → Buffers) (v : Buffers) → f (f v) ≡ f v → h (h v) ≡ h v
+by-phase : (k : Phase) (f h : Buffers → Buffers) (v : Buffers) → f (f v) ≡ f v → h (h v) ≡ h v
     → byPhase k (f (byPhase k (f v) (h v))) (h (byPhase k (f v) (h v))) ≡ byPhase k (f v) (h v)
-by-phase zero f h v a b = cc
-by-phase (suc k) f h v a b = cc
+by-phase Reads f h v a b = cc
+by-phase Writes f h v a b = cc
 
 pub move-again : (route : Route) (s : ℕ) (v : Buffers) → move route s (move route s v) ≡ move route s v
 unfolding move

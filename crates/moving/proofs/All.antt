@@ -23,14 +23,11 @@ use Rattle.moving.specs.Step.{Buffers, Fits, areaBy, areaOf, even, moves
 use Rattle.planning.specs.Running.{PassRuns}
 use Rattle.planning.specs.Pass.{Pass, Route, passAt, passSteps, performed, total}
 
-even-suc : (p : ℕ) → even (suc p) ≡ not (even p)
+pub even-suc : (p : ℕ) → even (suc p) ≡ not (even p)
 even-suc p =
     by-eq (p % 2) 0 (even (suc p) ≡ not (even p))
     (λ e. ne-eqb (suc p % 2) 0 (λ q. omega arith) ∙ ap not (sym (eq-eqb (p % 2) 0 e)))
-    (λ n. eq-eqb (suc p % 2) 0 (odd n) ∙ ap not (sym (ne-eqb (p % 2) 0 n)))
-  where
-    odd : (p % 2 ≡ 0 → ⊥) → suc p % 2 ≡ 0
-    odd n = by-eq (suc p % 2) 0 (suc p % 2 ≡ 0) (λ e. e) (λ k. absurd (n (omega arith)))
+    (λ n. eq-eqb (suc p % 2) 0 (omega arith) ∙ ap not (sym (ne-eqb (p % 2) 0 n)))
 
 not-even-suc : (p : ℕ) → not (even (suc p)) ≡ even p
 not-even-suc p = ap not (even-suc p) ∙ twice (even p)
@@ -122,9 +119,10 @@ module _ (route : Route) (ok : Allowed (route .geometry)) (runs : (p : ℕ) → 
   pub all-passes : (x : ℕ) → x < records g → recordOf (g .r) (areaOf (length (route .passes)) (moves route (total route) v₀)) (performed (route .passes) x) ≡ recordOf (g .r) (v₀ .area0) x
   unfolding total
   all-passes x hx =
-      ap₂ (λ (i : ℕ) (l : List Pass). recordOf (g .r) (areaOf (length (route .passes)) (moves route i v₀)) (performed l x)) (mul-comm (passSteps route) (length (route .passes))) (sym (take-length (route .passes)))
-      ∙ same-record (g .r) (areaOf (length (route .passes)) (moves route (length (route .passes) * passSteps route) v₀)) (v₀ .area0) (records g) (performed (take (length (route .passes)) (route .passes)) x) x
-      (end .here-long) (fits .area0-long) (end .within x hx) hx (λ j hj. end .bytes x j hx hj)
+      ap₂ (λ (i : ℕ) (l : List Pass). recordOf (g .r) (areaOf (length (route .passes)) (moves route i v₀)) (performed l x))
+      (mul-comm (passSteps route) (length (route .passes))) (sym (take-length (route .passes)))
+      ∙ same-record (g .r) (areaOf (length (route .passes)) (moves route (length (route .passes) * passSteps route) v₀)) (v₀ .area0) (records g)
+      (performed (take (length (route .passes)) (route .passes)) x) x (end .here-long) (fits .area0-long) (end .within x hx) hx (λ j hj. end .bytes x j hx hj)
     where
       end : Reached route v₀ (length (route .passes)) (moves route (length (route .passes) * passSteps route) v₀)
       end = reached (length (route .passes)) (le-refl (length (route .passes)))

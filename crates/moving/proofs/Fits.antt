@@ -15,6 +15,8 @@ use Rattle.moving.specs.Bytes.{copied}
 use Rattle.moving.specs.Call.{movesFrom}
 use Rattle.moving.specs.Number.{loadOf, passOf, phaseOf, turnOf}
 use Rattle.moving.specs.Step.{Fits, Buffers, areaBy, areaOf, byPhase, even, fits, move, moves, readFrom, readMove, readTakes, withAreaBy, withMemory, writeFrom, writeMove, writeTakes}
+use Rattle.planning.specs.declared.Phase.{Phase}
+use Rattle.planning.specs.declared.Phase.the-variants.{Reads, Writes}
 use Rattle.planning.specs.Pass.{Pass, Route, passAt}
 
 pub fits→Fits : (g : Geometry) (v : Buffers) → fits g v ≡ true → Fits g v
@@ -39,6 +41,10 @@ Fits→fits g v k =
       eq-eqb (length (v .memory)) (memory g * g .r) (k .memory-long),
     )
 
+pub area-long : (g : Geometry) (v : Buffers) → Fits g v → (t : Bool) → length (areaBy t v) ≡ records g * g .r
+area-long g v k true = k .area0-long
+area-long g v k false = k .area1-long
+
 -- ---- a move changes no length
 
 module _ (g : Geometry) where
@@ -49,9 +55,9 @@ module _ (g : Geometry) where
   with-area-fits true l v e k = record { area0-long = e ∙ k .area0-long; area1-long = k .area1-long; memory-long = k .memory-long }
   with-area-fits false l v e k = record { area0-long = k .area0-long; area1-long = e ∙ k .area1-long; memory-long = k .memory-long }
 
-  by-phase : (k : ℕ) (v w : Buffers) → Fits g v → Fits g w → Fits g (byPhase k v w)
-  by-phase zero v w a b = search needs
-  by-phase (suc k) v w a b = search needs
+  by-phase : (k : Phase) (v w : Buffers) → Fits g v → Fits g w → Fits g (byPhase k v w)
+  by-phase Reads v w a b = search needs
+  by-phase Writes v w a b = search needs
 
   pub move-fits : (route : Route) (s : ℕ) (v : Buffers) → Fits g v → Fits g (move route s v)
   unfolding move readMove writeMove

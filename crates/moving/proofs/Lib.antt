@@ -3,12 +3,11 @@ pub mod Fits
 pub mod Numbers
 pub mod Again
 pub mod Calls
-pub mod Lines
 pub mod Load
 pub mod Pass
 pub mod All
+pub mod Kept
 pub mod Low
 pub mod Drives
-pub mod Keeps
+pub mod Moved
 pub mod Bridge
-pub mod Main

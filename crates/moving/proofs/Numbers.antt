@@ -4,10 +4,12 @@ use Prim.Native.Nat.{_%_, _*_, _+_, _-_, _/_, _<_, _^_, _≤_, ℕ}
 use native.Mathlib.Nat.{div-lt-iff-lt-mul, mod-lt, mul-assoc, mul-comm, mul-div-cancel}
 use native.Mathlib.Omega.{arith}
 use lib.Arith.{digits-div, digits-lt, digits-mod}
+use lib.ListN.{getD, length}
 use lib.Pow.{pow-add, pow-pos}
 use Rattle.bank.specs.Geometry.{Allowed, block, drives, loadAt, loads, memory, records, stripeAt, stripes}
 use Rattle.bank.specs.declared.Geometry.{Geometry}
 use Rattle.moving.specs.Number.{loadOf, passOf, phaseOf, turnOf}
+use Rattle.planning.specs.declared.Phase.the-variants.{Writes}
 use Rattle.planning.specs.Pass.{Route, loadSteps, passSteps, phases}
 
 pub pow-split : (i j : ℕ) → i ≤ j → 2 ^ j ≡ 2 ^ (j - i) * 2 ^ i
@@ -61,18 +63,18 @@ module _ (route : Route) (ok : Allowed (route .geometry)) where
   pub load-pos : 0 < loadSteps route
   load-pos = omega (arith, stripes-pos geo ok, load-is)
 
-  -- 2N/(BD) is 2M/(BD) for each load
+  -- N/(BD) in each phase is M/(BD) for each load
   pub pass-is : passSteps route ≡ loads geo * loadSteps route
   unfolding passSteps loadSteps
   pass-is =
       ap (λ (k : ℕ). k / (block geo * drives geo))
-      (ap (λ (k : ℕ). phases route * k) (records-is geo ok ∙ ap (λ (k : ℕ). loads geo * k) (memory-is geo ok))
-      ∙ sym (mul-assoc (phases route) (loads geo) (stripes geo * (block geo * drives geo)))
-      ∙ ap (λ (k : ℕ). k * (stripes geo * (block geo * drives geo))) (mul-comm (phases route) (loads geo))
-      ∙ mul-assoc (loads geo) (phases route) (stripes geo * (block geo * drives geo))
-      ∙ ap (λ (k : ℕ). loads geo * k) (sym (mul-assoc (phases route) (stripes geo) (block geo * drives geo)))
-      ∙ sym (mul-assoc (loads geo) (phases route * stripes geo) (block geo * drives geo)))
-      ∙ mul-div-cancel (loads geo * (phases route * stripes geo)) (stripe-pos geo ok)
+      (ap (λ (k : ℕ). length (phases route) * k) (records-is geo ok ∙ ap (λ (k : ℕ). loads geo * k) (memory-is geo ok))
+      ∙ sym (mul-assoc (length (phases route)) (loads geo) (stripes geo * (block geo * drives geo)))
+      ∙ ap (λ (k : ℕ). k * (stripes geo * (block geo * drives geo))) (mul-comm (length (phases route)) (loads geo))
+      ∙ mul-assoc (loads geo) (length (phases route)) (stripes geo * (block geo * drives geo))
+      ∙ ap (λ (k : ℕ). loads geo * k) (sym (mul-assoc (length (phases route)) (stripes geo) (block geo * drives geo)))
+      ∙ sym (mul-assoc (loads geo) (length (phases route) * stripes geo) (block geo * drives geo)))
+      ∙ mul-div-cancel (loads geo * (length (phases route) * stripes geo)) (stripe-pos geo ok)
 
   -- ---- any step number
 
@@ -116,9 +118,9 @@ module _ (route : Route) (ok : Allowed (route .geometry)) where
 
     -- the k-th turn of phase f
     module _ (f k : ℕ) (e : u ≡ f * stripes geo + k) (hk : k < stripes geo) where
-      pub phase-at : phaseOf route (p * passSteps route + (l * loadSteps route + u)) ≡ f
+      pub phase-at : phaseOf route (p * passSteps route + (l * loadSteps route + u)) ≡ getD (phases route) f Writes
       unfolding phaseOf
-      phase-at = ap (λ (i : ℕ). i / stripes geo) (left-at ∙ e) ∙ digits-div f hk
+      phase-at = ap (λ (i : ℕ). getD (phases route) i Writes) (ap (λ (i : ℕ). i / stripes geo) (left-at ∙ e) ∙ digits-div f hk)
 
       pub turn-at : turnOf route (p * passSteps route + (l * loadSteps route + u)) ≡ k
       unfolding turnOf

@@ -17,21 +17,23 @@ use Rattle.moving.proofs.Numbers.{load-at, load-is, load-lt, pass-at, p
 use Rattle.moving.specs.Bytes.{copied}
 use Rattle.moving.specs.Number.{loadOf, passOf, phaseOf, turnOf}
 use Rattle.moving.specs.Step.{Buffers, areaBy, byPhase, even, move, moves, readMove, sourceOf, writeMove}
-use Rattle.planning.specs.Pass.{Route, loadSteps, passAt, passSteps}
+use Rattle.planning.specs.declared.Phase.{Phase}
+use Rattle.planning.specs.declared.Phase.the-variants.{Reads, Writes}
+use Rattle.planning.specs.Pass.{Route, loadSteps, passAt, passSteps, phases}
 
 when-lt : (route : Route) (ok : Allowed (route .geometry)) (src : ℕ → ℕ) (y : ℕ) → src y < records (route .geometry) → when route src y < loads (route .geometry) * loadSteps route
 unfolding when
 when-lt route ok src y h = digits-lt (load-lt (route .geometry) ok (src y) h) (omega (arith, stripe-lt (route .geometry) ok y, load-is route ok))
 
--- a step's move, by its four numbers
-moveBy : Route → Buffers → ℕ → ℕ → ℕ → ℕ → Buffers
+-- a step's move, by its phase and its three numbers
+moveBy : Route → Buffers → Phase → ℕ → ℕ → ℕ → Buffers
 moveBy route v f p l t = byPhase f (readMove (route .geometry) p l t v) (writeMove (route .geometry) (passAt route p) p l t v)
 
-pub move-at : (route : Route) (s : ℕ) (v : Buffers) (f p l t : ℕ) → phaseOf route s ≡ f → passOf route s ≡ p → loadOf route s ≡ l → turnOf route s ≡ t
+pub move-at : (route : Route) (s : ℕ) (v : Buffers) (f : Phase) (p l t : ℕ) → phaseOf route s ≡ f → passOf route s ≡ p → loadOf route s ≡ l → turnOf route s ≡ t
     → move route s v ≡ byPhase f (readMove (route .geometry) p l t v) (writeMove (route .geometry) (passAt route p) p l t v)
 unfolding move moveBy
 move-at route s v f p l t ef ep el et =
-    ap (λ (k : ℕ). moveBy route v k (passOf route s) (loadOf route s) (turnOf route s)) ef
+    ap (λ (k : Phase). moveBy route v k (passOf route s) (loadOf route s) (turnOf route s)) ef
     ∙ ap (λ (k : ℕ). moveBy route v f k (loadOf route s) (turnOf route s)) ep
     ∙ ap (λ (k : ℕ). moveBy route v f p k (turnOf route s)) el
     ∙ ap (λ (k : ℕ). moveBy route v f p l k) et
@@ -61,21 +63,23 @@ module _ (route : Route) (ok : Allowed (route .geometry)) (p : ℕ) (v₀ : Buff
   in-load u h = (omega (arith, load-is route ok), omega (arith, load-is route ok))
 
   reads-to : (l u : ℕ) → l < loads g → u ≤ stripes g → D l 0 → D l u
+  unfolding phases
   reads-to l zero hl hu k = k
   reads-to l (suc u) hl hu k =
       subst (During route src p A T l (suc u))
       (sym (one l u
-      ∙ move-at route (stepNo l u) (at l u) 0 p l u
+      ∙ move-at route (stepNo l u) (at l u) Reads p l u
       (phase-at route ok p l u hl (in-load u hu .0) 0 u (omega arith) hu) (pass-at route ok p l u hl (in-load u hu .0)) (load-at route ok p l u hl (in-load u hu .0))
       (turn-at route ok p l u hl (in-load u hu .0) 0 u (omega arith) hu)))
       (read-step route ok p A T l u (at l u) hu (reads-to l u hl (omega arith) k))
 
   writes-to : (l t : ℕ) → l < loads g → t ≤ stripes g → D l (stripes g) → D l (stripes g + t)
+  unfolding phases
   writes-to l zero hl ht k = subst (λ (u : ℕ). D l u) (sym (add-zero (stripes g))) k
   writes-to l (suc t) hl ht k =
       subst (During route src p A T l (stripes g + suc t))
       (sym (ap (λ (u : ℕ). at l u) (add-suc (stripes g) t) ∙ one l (stripes g + t)
-      ∙ move-at route (stepNo l (stripes g + t)) (at l (stripes g + t)) 1 p l t
+      ∙ move-at route (stepNo l (stripes g + t)) (at l (stripes g + t)) Writes p l t
       (phase-at route ok p l (stripes g + t) hl (in-load t ht .1) 1 t (omega arith) ht) (pass-at route ok p l (stripes g + t) hl (in-load t ht .1)) (load-at route ok p l (stripes g + t) hl (in-load t ht .1))
       (turn-at route ok p l (stripes g + t) hl (in-load t ht .1) 1 t (omega arith) ht)))
       (write-step route ok p A T l t (at l (stripes g + t)) ht (writes-to l t hl (omega arith) k))

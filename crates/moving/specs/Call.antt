@@ -1,22 +1,33 @@
 -- What does a call for a step, or for a run of steps, answer and leave? Assumes nothing.
-use mathlib.Core.Bool.{not, cond, _||_}
+use mathlib.Core.Bool.{Bool, not, cond, _||_}
+use mathlib.Core.List.{List}
 use Prim.Native.Nat.{ℕ, zero, suc, _+_, _-_, min}
 use lib.Dec.{eqb, leb}
 use Rattle.bank.specs.Checks.{refuse}
 use Rattle.planning.specs.declared.Plan.{Plan}
+use Rattle.planning.specs.declared.state.State.{State}
 use Rattle.planning.specs.Pass.{Route, total}
+use Rattle.planning.specs.State.{freshState, furtherBy}
 use Rattle.planning.specs.Stored.{routeOf}
 use Rattle.planning.specs.Running.{canRun}
-use Rattle.moving.specs.Step.{Buffers, fits, move}
+use Rattle.moving.specs.Step.{Buffers, buffersOf, fits, move}
 
--- what a line has between two calls: the state's next step, and the lent bytes
+-- what a line has between two calls: the state, and the lent bytes
 pub record Moment : Type 0 where
-  pub next : ℕ
+  pub state : State
   pub buffers : Buffers
 
--- a fresh state
-abbrev pub fresh : Buffers → Moment
-fresh v = record { next = 0; buffers = v }
+-- a line begins: the state is fresh
+abbrev pub begun : Buffers → Moment
+begun v = record { state = freshState; buffers = v }
+
+-- a state and three lent buffers
+abbrev pub lent : State → List ℕ → List ℕ → List ℕ → Moment
+lent state area0 area1 memory = record { state = state; buffers = buffersOf area0 area1 memory }
+
+-- a number that refuses: neither done nor done again
+abbrev pub refuses : ℕ → Bool
+refuses k = not (eqb k 0 || eqb k 9)
 
 -- ---- a step
 
@@ -26,15 +37,15 @@ turnNumber all next asked = refuse (leb all asked) 6 (refuse (eqb asked next) 0 
 
 -- what is checked before: 7, the plan can't run; 4, a buffer isn't of its length
 unfoldable pub readyNumber : Plan → Moment → ℕ → ℕ
-readyNumber plan moment later = refuse (not (canRun plan (moment .next))) 7 (refuse (not (fits (plan .geometry) (moment .buffers))) 4 later)
+readyNumber plan moment later = refuse (not (canRun plan (moment .state))) 7 (refuse (not (fits (plan .geometry) (moment .buffers))) 4 later)
 
 -- the number of a step call
 unfoldable pub stepNumber : Plan → Moment → ℕ → ℕ
-stepNumber plan moment asked = readyNumber plan moment (turnNumber (total (routeOf plan)) (moment .next) asked)
+stepNumber plan moment asked = readyNumber plan moment (turnNumber (total (routeOf plan)) (moment .state .next .0) asked)
 
--- what follows a number: the next step advances on 0; the move is made on 0 and 9; nothing else changes
-abbrev pub nextBy : ℕ → ℕ → ℕ
-nextBy k next = cond (eqb k 0) (next + 1) next
+-- what follows a number: the state advances on 0; the move is made on 0 and 9; nothing else changes
+abbrev pub stateBy : ℕ → State → State
+stateBy k state = cond (eqb k 0) (furtherBy state 1) state
 
 abbrev pub buffersBy : ℕ → Buffers → Buffers → Buffers
 buffersBy k moved kept = cond (eqb k 0 || eqb k 9) moved kept
@@ -43,7 +54,7 @@ buffersBy k moved kept = cond (eqb k 0 || eqb k 9) moved kept
 unfoldable pub stepped : Plan → Moment → ℕ → Moment
 stepped plan moment asked =
     record {
-      next = nextBy (stepNumber plan moment asked) (moment .next);
+      state = stateBy (stepNumber plan moment asked) (moment .state);
       buffers = buffersBy (stepNumber plan moment asked) (move (routeOf plan) asked (moment .buffers)) (moment .buffers);
     }
 
@@ -55,7 +66,7 @@ runNumber plan moment = readyNumber plan moment 0
 
 -- the steps that it does: min(allowance, total - next), and none where it is refused
 unfoldable pub runCount : Plan → Moment → ℕ → ℕ
-runCount plan moment q = cond (eqb (runNumber plan moment) 0) (min q (total (routeOf plan) - moment .next)) 0
+runCount plan moment q = cond (eqb (runNumber plan moment) 0) (min q (total (routeOf plan) - moment .state .next .0)) 0
 
 -- the k steps from s on, each once
 unfoldable pub movesFrom : Route → ℕ → ℕ → Buffers → Buffers
@@ -66,6 +77,6 @@ movesFrom route s (suc k) v = move route (s + k) (movesFrom route s k v)
 unfoldable pub ran : Plan → Moment → ℕ → Moment
 ran plan moment q =
     record {
-      next = moment .next + runCount plan moment q;
-      buffers = movesFrom (routeOf plan) (moment .next) (runCount plan moment q) (moment .buffers);
+      state = furtherBy (moment .state) (runCount plan moment q);
+      buffers = movesFrom (routeOf plan) (moment .state .next .0) (runCount plan moment q) (moment .buffers);
     }

@@ -3,5 +3,4 @@ pub mod Bytes
 pub mod Number
 pub mod Step
 pub mod Call
-pub mod Line
 pub mod Blocks

@@ -1,7 +1,10 @@
 -- Which pass, memoryload, phase and turn is a step number? Assumes nothing.
 use Prim.Native.Nat.{ℕ, _/_, _%_}
+use lib.ListN.{getD}
 use Rattle.bank.specs.Geometry.{stripes}
-use Rattle.planning.specs.Pass.{Route, passSteps, loadSteps}
+use Rattle.planning.specs.declared.Phase.{Phase}
+use Rattle.planning.specs.declared.Phase.the-variants.{Writes}
+use Rattle.planning.specs.Pass.{Route, phases, passSteps, loadSteps}
 
 -- passes come one after the other
 unfoldable pub passOf : Route → ℕ → ℕ
@@ -11,9 +14,9 @@ passOf route s = s / passSteps route
 unfoldable pub loadOf : Route → ℕ → ℕ
 loadOf route s = s % passSteps route / loadSteps route
 
--- in a load, 0 is its reads and 1 its writes
-unfoldable pub phaseOf : Route → ℕ → ℕ
-phaseOf route s = s % passSteps route % loadSteps route / stripes (route .geometry)
+-- the phases of a load come in their order; no step is past the last of them
+unfoldable pub phaseOf : Route → ℕ → Phase
+phaseOf route s = getD (phases route) (s % passSteps route % loadSteps route / stripes (route .geometry)) Writes
 
 -- which of the reads, or of the writes: t
 unfoldable pub turnOf : Route → ℕ → ℕ

@@ -8,6 +8,8 @@ use lib.ListN.{length}
 use Rattle.bank.specs.declared.Geometry.{Geometry}
 use Rattle.bank.specs.Geometry.{records, memory, loadAt, stripeAt}
 use Rattle.algebra.specs.Matrix.{source}
+use Rattle.planning.specs.declared.Phase.{Phase}
+use Rattle.planning.specs.declared.Phase.the-variants.{Reads, Writes}
 use Rattle.planning.specs.Pass.{Pass, Route, passAt}
 use Rattle.moving.specs.Bytes.{copied}
 use Rattle.moving.specs.Number.{passOf, loadOf, phaseOf, turnOf}
@@ -79,9 +81,9 @@ writeMove g pass p load t v =
     withAreaBy (not (even p)) (copied (writeTakes g pass load t) (writeFrom g pass) (g .r) (v .memory) (areaBy (not (even p)) v)) v
 
 module _ {A : Type 0} where
-  abbrev pub byPhase : ℕ → A → A → A
-  byPhase zero reads writes = reads
-  byPhase (suc k) reads writes = writes
+  abbrev pub byPhase : Phase → A → A → A
+  byPhase Reads reads writes = reads
+  byPhase Writes reads writes = writes
 
 -- the move of step s
 unfoldable pub move : Route → ℕ → Buffers → Buffers
@@ -94,10 +96,3 @@ move route s v =
 unfoldable pub moves : Route → ℕ → Buffers → Buffers
 moves route zero v = v
 moves route (suc k) v = move route k (moves route k v)
-
--- step s moves record x: of the area that it reads, or of the area that it writes
-unfoldable pub touches : Route → ℕ → ℕ → Bool
-touches route s x =
-    byPhase (phaseOf route s)
-    (eqb (loadAt (route .geometry) x) (loadOf route s) && readTakes (route .geometry) (turnOf route s) x)
-    (writeTakes (route .geometry) (passAt route (passOf route s)) (loadOf route s) (turnOf route s) x)

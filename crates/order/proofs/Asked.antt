@@ -15,6 +15,7 @@ use Rattle.bank.specs.Geometry.{records}
 use Rattle.bank.specs.Checks.{refuse, orElse, handed}
 use Rattle.algebra.specs.Matrix.{target, source, singular}
 use Rattle.algebra.proofs.Search.{le-or-lt}
+use Rattle.algebra.specs.Vector.{WORD}
 use Rattle.matrix.specs.Solved.{solvedFor}
 use Rattle.matrix.specs.declared.questions.Solved.{Solved}
 use Rattle.order.specs.Order.{matrixOf, formNumber, judgement}
@@ -26,8 +27,8 @@ use Rattle.order.specs.declared.address.Target.{Target}
 use Rattle.order.specs.declared.address.Source.the-variants.{From, Refused}
 
 -- an address of n bits is a word
-pub in-word : (n x : ℕ) → n ≤ ROWS → x < 2 ^ n → x < 2 ^ 32
-in-word n x few h = lt-of-lt-of-le h (pow-mono {i = n} {j = 32} (omega arith))
+pub in-word : (n x : ℕ) → n ≤ ROWS → x < 2 ^ n → x < 2 ^ WORD
+in-word n x few h = lt-of-lt-of-le h (pow-mono {i = n} {j = WORD} (omega arith))
 
 module _ (order : Order) (x : ℕ) where
   -- ---- the number

@@ -3,25 +3,22 @@ use mathlib.Core.Path.{_≡_, refl, sym, ap, _∙_}
 use mathlib.Core.Bool.{Bool, true, false}
 use mathlib.Core.List.{List, [], _∷_}
 use Prim.Native.Nat.{ℕ, _≤_, _<_}
-use native.Mathlib.Nat.{lt-of-lt-of-le}
 use native.Mathlib.Omega.{arith}
-use lib.Bits.{bitXor, xor-lt}
+use lib.Bits.{bitXor}
 use lib.ListN.{length}
-use lib.Pow.{pow-mono}
 use Rattle.bank.specs.Limits.{ROWS}
 use Rattle.bank.specs.Geometry.{inLimits, records}
 use Rattle.algebra.specs.Matrix.{apply, target, source, singular}
-use Rattle.algebra.proofs.Linear.{apply-lt}
-use Rattle.algebra.proofs.Singular.{Clash, clash→singular, singular→clash, regular-inj, source-target}
+use Rattle.algebra.proofs.Singular.{Clash, clash→singular, singular→clash, regular-inj}
 use Rattle.algebra.proofs.Inverse.{source-lt, target-source-is}
 use Rattle.order.specs.Order.{matrixOf, badForm, judgement}
-use Rattle.order.specs.Address.{questionNumber, targetOf, meaningOf, foundFor}
+use Rattle.order.specs.Address.{targetOf, meaningOf, foundFor}
 use Rattle.order.specs.declared.Order.{Order}
 use Rattle.order.specs.declared.address.Source.{Source}
 use Rattle.order.specs.declared.address.Source.the-variants.{From, Refused}
 use Rattle.order.proofs.Judged.{singular-three, regular-none}
 use Rattle.order.proofs.Accepted.{Accepted, judgement→accepted, complement-below, matrix-length}
-use Rattle.order.proofs.Asked.{number-order, number-ten, number-none, target-given}
+use Rattle.order.proofs.Asked.{number-none, target-given}
 
 -- ---- an order in good form is singular exactly when two different addresses below N share a target
 module _ (order : Order) (inside : inLimits (order .geometry) ≡ true) (form : badForm order ≡ false) where
@@ -46,14 +43,10 @@ module _ (order : Order) (room : length (order .rows) ≡ ROWS) (taken : judgeme
   rows-n : length (matrixOf order) ≤ n
   rows-n = omega (arith, matrix-length order (ok .inside) room)
 
-  -- it sends x to Ax xor c, which is an address
+  -- it sends x to Ax xor c
   pub sends : (x : ℕ) → x < records (order .geometry) → targetOf order x ≡ record { number = 0; address = record { 0 = bitXor (apply (matrixOf order) x) (order .complement) } }
   unfolding target
   sends x h = sym (target-given order x (bitXor (apply (matrixOf order) x) (order .complement)) (number-none order x taken h) refl)
-
-  pub sends-below : (x : ℕ) → target (matrixOf order) (order .complement) x < records (order .geometry)
-  unfolding target
-  sends-below x = xor-lt n (apply (matrixOf order) x) (order .complement) (lt-of-lt-of-le (apply-lt (matrixOf order) x) (pow-mono rows-n)) (complement-below order (ok .form))
 
   -- asked backwards, it gives the only x that goes there
   pub record Comes (y : ℕ) : Type 0 where
@@ -76,22 +69,6 @@ module _ (order : Order) (room : length (order .rows) ≡ ROWS) (taken : judgeme
         goes = g;
         only = λ x l e. regular-inj n (matrixOf order) (order .complement) x s (ok .regular) l b (e ∙ sym g);
       }
-
-  -- each undoes the other
-  pub back-from-target : (x : ℕ) → x < records (order .geometry) → foundFor order (target (matrixOf order) (order .complement) x) ≡ record { number = 0; sources = x ∷ [] }
-  unfolding foundFor
-  back-from-target x h = rw (number-none order (target (matrixOf order) (order .complement) x) taken (sends-below x), source-target n (matrixOf order) (order .complement) x (ok .regular) h)
-
-  pub forth-from-source : (y : ℕ) (h : y < records (order .geometry)) → targetOf order (comes y h .from) ≡ record { number = 0; address = record { 0 = y } }
-  forth-from-source y h = sym (target-given order (comes y h .from) y (number-none order (comes y h .from) taken (comes y h .below)) (sym (comes y h .goes)))
-
-  -- 10 is given exactly to an address of N or more
-  pub ten : (x : ℕ) → records (order .geometry) ≤ x → questionNumber order x ≡ 10
-  ten x h = number-ten order x taken h
-
--- ---- 10 only after 1, 2 and 3
-pub order-first : (order : Order) (x : ℕ) → (judgement order ≡ 0 → ⊥) → questionNumber order x ≡ judgement order
-order-first = number-order
 
 -- ---- one outcome: two answers backwards that mean the same are the same
 pub one-answer : (a b : Source) → meaningOf a ≡ meaningOf b → a ≡ b

@@ -7,7 +7,7 @@ use native.Mathlib.Nat.{div-le-self, mul-le-mul, mul-pos}
 use native.Mathlib.Omega.{arith}
 use borrow.Author.Tests.{leb-true}
 use lib.Dec.{eqb, leb}
-use lib.ListN.{getD, take, drop}
+use lib.ListN.{getD, length, take, drop}
 use lib.Pow.{pow-add, pow-mono, pow-pos}
 use lib.Seq.{take-take}
 use Rattle.algebra.proofs.Search.{and-both, and-l, and-r, some-ext}
@@ -17,10 +17,11 @@ use Rattle.bank.specs.declared.Geometry.{Geometry}
 use Rattle.bank.proofs.Limits.{limits→allowed}
 use Rattle.algebra.specs.Search.{some}
 use Rattle.algebra.specs.Matrix.{singular, spills}
-use Rattle.planning.specs.Pass.{Pass, passAt, passSteps, phases, total}
+use Rattle.planning.specs.Pass.{Pass, Route, passAt, passSteps, phases, total}
 use Rattle.planning.specs.Running.{canRun, countInLimits, singularPass, sound, meantZero, spareComplement, spareRow, spillingPass, strayComplement, strayRow}
 use Rattle.planning.specs.Stored.{routeOf, storedPass}
 use Rattle.planning.specs.declared.Plan.{Plan}
+use Rattle.planning.specs.declared.state.State.{State}
 use Rattle.planning.proofs.Running.{sound→checked}
 use Rattle.planning.proofs.Stored.{route-at, route-length, taken-at}
 use Rattle.plan.specs.Total.{totalSteps}
@@ -122,14 +123,14 @@ module _ (plan : Plan) (inside : inLimits (plan .geometry) && countInLimits plan
   unfolding totalSteps
   total-inside = rw inside
 
-  -- from N, B, D and the passes
-  pub total-from : (size block drives count : ℕ) → size ≡ 2 ^ plan .geometry .n → block ≡ 2 ^ plan .geometry .b → drives ≡ 2 ^ plan .geometry .d → count ≡ plan .count
-      → 2 * size / (block * drives) * count ≡ totalSteps plan
-  total-from size block drives count is-n is-b is-d is-count =
-      rw (is-n, is-b, is-d, is-count)
+  -- from the phases, N, B, D and the passes
+  pub total-from : (kinds size block drives count : ℕ) → kinds ≡ length (phases (routeOf plan)) → size ≡ 2 ^ plan .geometry .n → block ≡ 2 ^ plan .geometry .b → drives ≡ 2 ^ plan .geometry .d
+      → count ≡ plan .count → kinds * size / (block * drives) * count ≡ totalSteps plan
+  total-from kinds size block drives count is-f is-n is-b is-d is-count =
+      rw (is-f, is-n, is-b, is-d, is-count)
       (sym (
       total-inside
-      ∙ unfold total passSteps phases routeOf in ap (λ (k : ℕ). 2 * 2 ^ plan .geometry .n / (2 ^ plan .geometry .b * 2 ^ plan .geometry .d) * k) (route-length plan)
+      ∙ unfold total passSteps routeOf in ap (λ (k : ℕ). length (phases (routeOf plan)) * 2 ^ plan .geometry .n / (2 ^ plan .geometry .b * 2 ^ plan .geometry .d) * k) (route-length plan)
       ))
 
 module _ (g : Geometry) (k : Allowed g) where
@@ -143,17 +144,26 @@ module _ (g : Geometry) (k : Allowed g) where
   pub stripe-some : 0 < 2 ^ g .b * 2 ^ g .d
   stripe-some = mul-pos (pow-pos (g .b)) (pow-pos (g .d))
 
--- a quotient of 2N taken for each pass is small
-pub total-small : (size part count : ℕ) → size ≤ 2 ^ ROWS → count ≤ PASSES → 2 * size / part * count ≤ 2 * 2 ^ ROWS * PASSES
-total-small size part count h few = mul-le-mul {n₁ = 2 * size / part} {m₁ = count} {n₂ = 2 * 2 ^ ROWS} {m₂ = PASSES} (omega (arith, div-le-self (2 * size) part)) few
+-- a memoryload has so few phases that N for each of them is small
+pub few-phases : (route : Route) → length (phases route) ≤ 4
+unfolding phases
+few-phases route = omega arith
+
+pub phases-small : (kinds size : ℕ) → kinds ≤ 4 → size ≤ 2 ^ ROWS → kinds * size ≤ 4 * 2 ^ ROWS
+phases-small kinds size few h = mul-le-mul {n₁ = kinds} {m₁ = size} {n₂ = 4} {m₂ = 2 ^ ROWS} few h
+
+-- and so is a part of that, taken for each pass
+pub total-small : (kinds size part count : ℕ) → kinds ≤ 4 → size ≤ 2 ^ ROWS → count ≤ PASSES → kinds * size / part * count ≤ 4 * 2 ^ ROWS * PASSES
+total-small kinds size part count few h passes =
+    mul-le-mul {n₁ = kinds * size / part} {m₁ = count} {n₂ = 4 * 2 ^ ROWS} {m₂ = PASSES} (omega (arith, div-le-self (kinds * size) part, phases-small kinds size few h)) passes
 
 -- ---- the state's next step
-pub stuck-unsound : (plan : Plan) (next : ℕ) → sound plan ≡ false → canRun plan next ≡ false
+pub stuck-unsound : (plan : Plan) (state : State) → sound plan ≡ false → canRun plan state ≡ false
 unfolding canRun
-stuck-unsound plan next e = rw e
+stuck-unsound plan state e = rw e
 
-pub can-run-next : (plan : Plan) (next steps : ℕ) → sound plan ≡ true → steps ≡ totalSteps plan → leb next steps ≡ canRun plan next
+pub can-run-next : (plan : Plan) (state : State) (steps : ℕ) → sound plan ≡ true → steps ≡ totalSteps plan → leb (state .next .0) steps ≡ canRun plan state
 unfolding canRun
-can-run-next plan next steps e is =
+can-run-next plan state steps e is =
     let k = sound→checked plan e in
-    rw e (ap (leb next) (is ∙ total-inside plan (and-both (inLimits (plan .geometry)) (countInLimits plan) (k .limits) (k .count))))
+    rw e (ap (leb (state .next .0)) (is ∙ total-inside plan (and-both (inLimits (plan .geometry)) (countInLimits plan) (k .limits) (k .count))))

@@ -12,10 +12,10 @@ use Rattle.order.proofs.Accepted.{complement-below, judgement→accepted, matri
 use Rattle.planning.specs.Columns.{phi}
 use Rattle.planning.specs.Making.{dividedUp}
 use Rattle.planning.specs.Pass.{Route, performed}
-use Rattle.planning.specs.Running.{canRun, sound}
+use Rattle.planning.specs.Running.{sound}
 use Rattle.planning.specs.Stored.{planFor, planOf, routeOf}
 use Rattle.planning.specs.declared.Plan.{Plan}
-use Rattle.planning.proofs.Made.{made-can-run, made-length, made-performs, made-route, made-sound}
+use Rattle.planning.proofs.Made.{made-length, made-performs, made-route, made-sound}
 use Rattle.plan.specs.Answer.{plannedFor}
 use Rattle.plan.specs.declared.make.Planned.{Planned}
 use Rattle.plan.proofs.Answered.{planned-taken}
@@ -23,10 +23,9 @@ use Rattle.plan.proofs.Answered.{planned-taken}
 -- ---- an order that is taken
 -- a plan that makes it
 pub record Makes (order : Order) (plan : Plan) : Type 0 where
-  -- it is for the order's bank, and one that can run, from the start on
+  -- it is for the order's bank, and one that can run
   pub on-its-bank : plan .geometry ≡ order .geometry
   pub sound-plan : sound plan ≡ true
-  pub can-start : canRun plan 0 ≡ true
   -- its passes take every x to Ax xor c
   pub performs : (x : ℕ) → x < records (order .geometry) → performed (routeOf plan .passes) x ≡ target (matrixOf order) (order .complement) x
   -- there are rank φ divided by m - b, rounded up, and one more
@@ -50,7 +49,6 @@ module _ (order : Order) (room : length (order .rows) ≡ ROWS) (taken : judgeme
           record {
             on-its-bank = unfold planFor planOf in refl;
             sound-plan = made-sound g A c (k .inside) long (k .regular) below;
-            can-start = made-can-run g A c (k .inside) long (k .regular) below;
             performs = λ x h. ap (λ (r : Route). performed (r .passes) x) (made-route g A c (k .inside) long (k .regular) below) ∙ made-performs g A c (k .inside) long (k .regular) x h;
             passes = unfold planFor planOf in made-length g A c (k .inside) long (k .regular);
           }

@@ -21,11 +21,12 @@ use Rattle.algebra.proofs.Rank.{rank-le}
 use Rattle.planning.specs.Columns.{after, phi}
 use Rattle.planning.specs.Making.{RoundReady, busy, erases, firstAfter, operations, passMatrices, passesFor, rounds, swaps}
 use Rattle.planning.specs.Pass.{Pass, complemented}
+use Rattle.planning.specs.Facts.{nonzero}
 use Rattle.planning.specs.Stored.{planFor, planOf}
 use Rattle.planning.specs.declared.Plan.{Plan}
 use Rattle.planning.proofs.Bridges.{column-after}
 use Rattle.planning.proofs.Made.{complemented-length, made-few}
-use Rattle.planning.proofs.Round.{next-nonzero, next-ready, nonzero}
+use Rattle.planning.proofs.Round.{next-nonzero, next-ready}
 use Rattle.planning.proofs.Rounds.{Good, busy-some, complemented-more, round-good, rounds-go, rounds-good, rounds-length, rounds-stop}
 use Rattle.planning.proofs.Run.{first-length, moved-nonzero, moved-ready}
 use Rattle.planning.proofs.Step2.{after-length, operations-length, undone-operations}

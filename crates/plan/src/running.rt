@@ -3,19 +3,21 @@ ghost use mathlib.Core.Path.{_≡_};
 ghost use mathlib.Core.Bool.{true, not, _&&_, _||_};
 ghost use Prim.Native.Nat.{_<_, _≤_, _+_, _*_, _/_, _%_};
 ghost use lib.Dec.{eqb, leb};
-ghost use lib.ListN.{getD, take, drop};
+ghost use lib.ListN.{getD, length, take, drop};
 ghost use Rattle.bank.specs.Limits.{ROWS, PASSES};
 ghost use Rattle.algebra.specs.Search.{some};
 ghost use Rattle.algebra.specs.Matrix.{singular, spills};
 ghost use Rattle.bank.specs.Geometry.{inLimits};
+ghost use Rattle.planning.specs.Pass.{phases};
+ghost use Rattle.planning.specs.Stored.{routeOf};
 ghost use Rattle.planning.specs.Running.{countInLimits, strayRow, strayComplement, spareRow, spareComplement, singularPass, spillingPass, sound, canRun};
 ghost use Rattle.plan.specs.Total.{totalSteps, resultArea};
 use crate::store::pass_rows;
 use bank::PASSES;
 use bank::PLACES;
 use bank::ROWS;
-use bank::Step;
 use planning::Plan;
+use planning::state::State;
 
 // Whether the geometry and the number of passes are inside the limits.
 fn size_in_limits(plan: Plan) -> bool
@@ -175,13 +177,20 @@ pub fn is_sound(plan: Plan) -> bool
 }
 
 // Whether the plan can run from the state's next step on.
-pub fn can_run(plan: Plan, next: Step) -> bool
-    ensures { λ r. ⌜ r ≡ canRun plan (next .0) ⌝ }
+pub fn can_run(plan: Plan, state: State) -> bool
+    ensures { λ r. ⌜ r ≡ canRun plan state ⌝ }
 {
     if !is_sound(plan) {
         return false;
     }
-    next.0 <= total_steps(plan)
+    state.next.0 <= total_steps(plan)
+}
+
+// How many phases a memoryload of the plan has.
+pub fn phases(plan: Plan) -> u64
+    ensures { λ r. ⌜ r ≡ length (phases (routeOf plan)) ⌝ }
+{
+    2
 }
 
 // The steps of a pass times the passes; 0 where the geometry or the count is outside the limits.
@@ -194,7 +203,7 @@ pub fn total_steps(plan: Plan) -> u64
     let size = bank::power(plan.geometry.n);
     let block = bank::power(plan.geometry.b);
     let drives = bank::power(plan.geometry.d);
-    2 * size / (block * drives) * bank::wide(plan.count)
+    phases(plan) * size / (block * drives) * bank::wide(plan.count)
 }
 
 // The area where the result lies.

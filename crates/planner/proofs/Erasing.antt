@@ -13,7 +13,7 @@ use lib.ListN.{List·getD-append, drop, getD, length, length-drop, length-map, s
 use borrow.Author.Tests.{eqb-true, le-ltb, lt-ltb}
 use Rattle.algebra.specs.Elimination.{Echelon, built, used}
 use Rattle.algebra.specs.Matrix.{identity}
-use Rattle.algebra.specs.Vector.{bit, comb, times}
+use Rattle.algebra.specs.Vector.{WORD, bit, comb, times}
 use Rattle.algebra.proofs.Basis.{rest-linear}
 use Rattle.algebra.proofs.Built.{built-same}
 use Rattle.algebra.proofs.Digits.{bit-zero, shr-below}
@@ -72,7 +72,7 @@ module _ (n b m : ℕ) (cols : List ℕ) where
         (λ i u v. ap (bitXor (2 ^ i)) (⊎-elim (λ (l : j ≤ i). erased-not j i l ∙ sym (e-high n b m hm cols i (omega arith))) (λ (l : i < j). erased-yes j i l) (le-or-lt j i))))
 
 -- ---- the next column of E
-module _ (room n b m : ℕ) (small : room ≤ 32) (hm : m ≤ n) (hn : n ≤ room) (cols : List ℕ) (sound : RoundReady n m cols) where
+module _ (room n b m : ℕ) (small : room ≤ WORD) (hm : m ≤ n) (hn : n ≤ room) (cols : List ℕ) (sound : RoundReady n m cols) where
   delta-lt : (i : ℕ) → getD (delta m cols) i 0 < 2 ^ (n - m)
   delta-lt i = subst (λ (k : ℕ). k < 2 ^ (n - m)) (sym (sym (comb-one (delta m cols) i) ∙ delta-comb m cols (2 ^ i))) (shr-below n m (comb cols (2 ^ i * 2 ^ m)) hm (sound .small (2 ^ i * 2 ^ m)))
 
@@ -95,14 +95,14 @@ module _ (room n b m : ℕ) (small : room ≤ 32) (hm : m ≤ n) (hn : n ≤ roo
 
   -- .. by the entries of an array that holds δ
   pub column-erased : (j : ℕ) → b ≤ j → j < m → (array r : List ℕ) → array ≡ delta m cols ++ r → (e : Echelon) → e ≡ built room array (n - m)
-      → (power v tag : ℕ) → power ≡ 2 ^ j → v ≡ getD (phi m cols) j 0 → tag ≡ bitXor 0 (used (e .vectors) (e .pivots) (e .tags) (e .count) v) → bitXor power (tag * 2 ^ m % 2 ^ 32) ≡ bitXor (2 ^ j) (eraser n b m cols j)
+      → (power v tag : ℕ) → power ≡ 2 ^ j → v ≡ getD (phi m cols) j 0 → tag ≡ bitXor 0 (used (e .vectors) (e .pivots) (e .tags) (e .count) v) → bitXor power (tag * 2 ^ m % 2 ^ WORD) ≡ bitXor (2 ^ j) (eraser n b m cols j)
   column-erased j hb hj array r ea e ee power v tag ep ev et =
       let same : e ≡ built room (delta m cols) (n - m)
       = ee ∙ built-same room array (delta m cols) (n - m) (λ i h. ap (λ (l : List ℕ). getD l i 0) ea ∙ List·getD-append (delta m cols) r 0 i (omega (arith, delta-length))) in
       let is : tag * 2 ^ m ≡ eraser n b m cols j
       = ap (λ (k : ℕ). k * 2 ^ m) (et ∙ xor-zero-l (used (e .vectors) (e .pivots) (e .tags) (e .count) v) ∙ ap (used (e .vectors) (e .pivots) (e .tags) (e .count)) ev) ∙ sym (eraser-tag j hb hj e same) in
-      let fits : n ≤ 32 = omega arith in
-      ap₂ (λ (x y : ℕ). bitXor x (y % 2 ^ 32)) ep is ∙ ap (bitXor (2 ^ j)) (mod-eq-of-lt (lt-of-lt-of-le (e-small n b m hm cols j) (pow-mono fits)))
+      let fits : n ≤ WORD = omega arith in
+      ap₂ (λ (x y : ℕ). bitXor x (y % 2 ^ WORD)) ep is ∙ ap (bitXor (2 ^ j)) (mod-eq-of-lt (lt-of-lt-of-le (e-small n b m hm cols j) (pow-mono fits)))
 
 -- ---- δ and φ, of the first n columns of an array
 pub phi-there : (m n j : ℕ) (cols : List ℕ) → m ≤ n → j < m → getD cols j 0 / 2 ^ m ≡ getD (phi m (take n cols)) j 0

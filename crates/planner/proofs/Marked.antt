@@ -15,10 +15,10 @@ use Rattle.algebra.proofs.Linear.{comb-take}
 use Rattle.algebra.proofs.Loops.{times-nil, times-not}
 use Rattle.algebra.specs.Elimination.{Echelon, built, rest}
 use Rattle.algebra.specs.Matrix.{marked, oneIf}
-use Rattle.algebra.specs.Vector.{comb, times}
+use Rattle.algebra.specs.Vector.{WORD, comb, times}
 
 -- what is left of column j after the columns before it counts as its mark
-pub left-marked : (room : ℕ) (cols : List ℕ) (w : ℕ) → w ≤ 32 → ((i : ℕ) → getD cols i 0 < 2 ^ w) → (j : ℕ) → j ≤ room → (e : Echelon) → e ≡ built room cols j
+pub left-marked : (room : ℕ) (cols : List ℕ) (w : ℕ) → w ≤ WORD → ((i : ℕ) → getD cols i 0 < 2 ^ w) → (j : ℕ) → j ≤ room → (e : Echelon) → e ≡ built room cols j
     → (d : ℕ) → d ≡ rest (e .vectors) (e .pivots) (e .count) (getD cols j 0) → (x : ℕ) → times d x ≡ times (oneIf (marked cols j)) x
 left-marked room cols w hw hc j hj e q d p x = go (eqb d 0) refl
   where

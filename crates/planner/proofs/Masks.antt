@@ -17,7 +17,7 @@ use Rattle.algebra.proofs.Listed.{which-first, which-none}
 use Rattle.algebra.proofs.Loops.{times-nil, times-not}
 use Rattle.algebra.proofs.Search.{below-suc}
 use Rattle.algebra.specs.Matrix.{oneIf}
-use Rattle.algebra.specs.Vector.{bit, times}
+use Rattle.algebra.specs.Vector.{WORD, bit, times}
 use Rattle.planner.specs.Marks.{bare, lowestOf, maskOf, placesOf}
 
 -- ---- the set of those that pass a test
@@ -72,28 +72,28 @@ pub places-none : (k : ℕ) → placesOf k 0 ≡ []
 unfolding placesOf
 places-none k = which-none (λ i. eqb (bit 0 i) 1) k 0 (λ i a b. ap (λ (d : ℕ). eqb d 1) (bit-zero i))
 
-module _ (k set : ℕ) (some : 0 < set) (small : set < 2 ^ k) (fits : k ≤ 32) where
-  on : bit set (trailingZeros 32 set) ≡ 1
-  on = lowest-on 32 set some (lt-of-lt-of-le small (pow-mono fits))
+module _ (k set : ℕ) (some : 0 < set) (small : set < 2 ^ k) (fits : k ≤ WORD) where
+  on : bit set (trailingZeros WORD set) ≡ 1
+  on = lowest-on WORD set some (lt-of-lt-of-le small (pow-mono fits))
 
-  pub lowest-place : trailingZeros 32 set < k
-  lowest-place = bit-place k set (trailingZeros 32 set) small on
+  pub lowest-place : trailingZeros WORD set < k
+  lowest-place = bit-place k set (trailingZeros WORD set) small on
 
-  pub places-first : placesOf k set ≡ trailingZeros 32 set ∷ placesOf k (bitXor set (2 ^ trailingZeros 32 set))
+  pub places-first : placesOf k set ≡ trailingZeros WORD set ∷ placesOf k (bitXor set (2 ^ trailingZeros WORD set))
   unfolding placesOf
   places-first =
-      which-first (λ i. eqb (bit set i) 1) (λ i. eqb (bit (bitXor set (2 ^ trailingZeros 32 set)) i) 1) (trailingZeros 32 set) k 0 (omega arith) (omega (arith, lowest-place))
-      (λ i l. ap (λ (d : ℕ). eqb d 1) (below-lowest 32 set i l)) (ap (λ (d : ℕ). eqb d 1) on)
-      (ap (λ (d : ℕ). eqb d 1) (bit-xor set (2 ^ trailingZeros 32 set) (trailingZeros 32 set) ∙ ap₂ bitXor on (bit-pow (trailingZeros 32 set))))
-      (λ i f. ap (λ (d : ℕ). eqb d 1) (sym (bit-xor set (2 ^ trailingZeros 32 set) i ∙ ap (bitXor (bit set i)) (bit-pow-other (trailingZeros 32 set) i f) ∙ xor-zero-r (bit set i))))
+      which-first (λ i. eqb (bit set i) 1) (λ i. eqb (bit (bitXor set (2 ^ trailingZeros WORD set)) i) 1) (trailingZeros WORD set) k 0 (omega arith) (omega (arith, lowest-place))
+      (λ i l. ap (λ (d : ℕ). eqb d 1) (below-lowest WORD set i l)) (ap (λ (d : ℕ). eqb d 1) on)
+      (ap (λ (d : ℕ). eqb d 1) (bit-xor set (2 ^ trailingZeros WORD set) (trailingZeros WORD set) ∙ ap₂ bitXor on (bit-pow (trailingZeros WORD set))))
+      (λ i f. ap (λ (d : ℕ). eqb d 1) (sym (bit-xor set (2 ^ trailingZeros WORD set) i ∙ ap (bitXor (bit set i)) (bit-pow-other (trailingZeros WORD set) i f) ∙ xor-zero-r (bit set i))))
 
 pub lowest-nil : (set : ℕ) → set ≡ 0 → 0 ≡ lowestOf set
 unfolding lowestOf
-lowest-nil set e = times-nil set (2 ^ trailingZeros 32 set) e
+lowest-nil set e = times-nil set (2 ^ trailingZeros WORD set) e
 
-pub lowest-one : (set : ℕ) → (set ≡ 0 → ⊥) → 2 ^ trailingZeros 32 set ≡ lowestOf set
+pub lowest-one : (set : ℕ) → (set ≡ 0 → ⊥) → 2 ^ trailingZeros WORD set ≡ lowestOf set
 unfolding lowestOf
-lowest-one set f = times-not set (2 ^ trailingZeros 32 set) f
+lowest-one set f = times-not set (2 ^ trailingZeros WORD set) f
 
 -- ---- columns that are not in the set
 pub bare-low : (set from to j : ℕ) → j < from → bare set from to j ≡ false

@@ -17,7 +17,7 @@ use Rattle.algebra.proofs.Lists.{all-mono}
 use Rattle.algebra.proofs.Loops.{times-nil, times-not}
 use Rattle.algebra.specs.Matrix.{oneIf}
 use Rattle.algebra.specs.Search.{which}
-use Rattle.algebra.specs.Vector.{times}
+use Rattle.algebra.specs.Vector.{WORD, times}
 use Rattle.planning.proofs.Step1.{mate-low}
 use Rattle.planning.specs.Making.{mate}
 use Rattle.planner.specs.Marks.{lowestOf, placesOf}
@@ -46,7 +46,7 @@ gets-on b left e = ap (λ (x : Bool). gets x left) e ∙ sym (times-not 1 (lowes
 gets-off : (b : Bool) (left : ℕ) → b ≡ false → gets b left ≡ 0
 gets-off b left e = ap (λ (x : Bool). gets x left) e ∙ sym (times-nil 0 (lowestOf left) refl)
 
-module _ (p : ℕ → Bool) (m k j left : ℕ) (small : left < 2 ^ m) (fits : m ≤ 32) where
+module _ (p : ℕ → Bool) (m k j left : ℕ) (small : left < 2 ^ m) (fits : m ≤ WORD) where
   abbrev us : List ℕ
   us = which p k (suc j)
 
@@ -70,7 +70,7 @@ module _ (p : ℕ → Bool) (m k j left : ℕ) (small : left < 2 ^ m) (fits : m 
           ap (λ (l : List ℕ). mate l (placesOf m left) j) (which-yes p k j e)
           ∙ ⊎-elim (λ (z : left ≡ 0). ap (λ (l : List ℕ). mate (j ∷ us) l j) (gone z) ∙ mate-none (j ∷ us) j ∙ lowest-nil left z)
           (λ (h : 0 < left).
-          ap (λ (l : List ℕ). mate (j ∷ us) l j) (places-first m left h small fits) ∙ mate-here us (placesOf m (bitXor left (2 ^ trailingZeros 32 left))) j (trailingZeros 32 left) ∙ lowest-one left (nonzero h))
+          ap (λ (l : List ℕ). mate (j ∷ us) l j) (places-first m left h small fits) ∙ mate-here us (placesOf m (bitXor left (2 ^ trailingZeros WORD left))) j (trailingZeros WORD left) ∙ lowest-one left (nonzero h))
           (eq-zero-or-pos left) ∙ sym (gets-on (p j) left e)
       go false e =
           ap (λ (l : List ℕ). mate l (placesOf m left) j) (which-no p k j e)
@@ -89,7 +89,7 @@ module _ (p : ℕ → Bool) (m k j left : ℕ) (small : left < 2 ^ m) (fits : m 
           ∙ sym (ap (λ (x : ℕ). mate us (placesOf m x) i) (ap₂ bitXor z (gets-on (p j) left e ∙ sym (lowest-nil left z))) ∙ ap (λ (l : List ℕ). mate us l i) (places-none m) ∙ mate-none us i))
           (λ (h : 0 < left).
           ap (λ (l : List ℕ). mate (j ∷ us) l i) (places-first m left h small fits)
-          ∙ mate-later us (placesOf m (bitXor left (2 ^ trailingZeros 32 left))) j (trailingZeros 32 left) i (λ q. omega (arith, q))
+          ∙ mate-later us (placesOf m (bitXor left (2 ^ trailingZeros WORD left))) j (trailingZeros WORD left) i (λ q. omega (arith, q))
           ∙ ap (λ (x : ℕ). mate us (placesOf m (bitXor left x)) i) (lowest-one left (nonzero h) ∙ sym (gets-on (p j) left e)))
           (eq-zero-or-pos left)
       go false e =
@@ -97,7 +97,7 @@ module _ (p : ℕ → Bool) (m k j left : ℕ) (small : left < 2 ^ m) (fits : m 
           ∙ ap (λ (x : ℕ). mate us (placesOf m x) i) (sym (xor-zero-r left) ∙ ap (bitXor left) (sym (gets-off (p j) left e)))
 
 -- ---- a turn: f is what each column gets, and the columns from j on still get theirs of what is left
-module _ (p : ℕ → Bool) (n m : ℕ) (f : ℕ → ℕ) (j left w : ℕ) (below : j < n) (small : left < 2 ^ m) (fits : m ≤ 32)
+module _ (p : ℕ → Bool) (n m : ℕ) (f : ℕ → ℕ) (j left w : ℕ) (below : j < n) (small : left < 2 ^ m) (fits : m ≤ WORD)
     (state : (i : ℕ) → j ≤ i → f i ≡ mate (which p (n - j) j) (placesOf m left) i) (got : w ≡ gets (p j) left) where
   one-more : n - j ≡ suc (n - suc j)
   one-more = omega arith

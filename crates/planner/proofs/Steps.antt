@@ -21,7 +21,7 @@ use Rattle.algebra.proofs.Search.{le-or-lt}
 use Rattle.algebra.specs.Elimination.{Echelon, built, used}
 use Rattle.algebra.specs.Matrix.{columns, marked, oneIf, product}
 use Rattle.algebra.specs.Search.{which}
-use Rattle.algebra.specs.Vector.{bit, times}
+use Rattle.algebra.specs.Vector.{WORD, bit, times}
 use Rattle.planning.proofs.Acts.{adding-at, adding-length}
 use Rattle.planning.proofs.Bridges.{reached-marked, summands-used}
 use Rattle.planning.proofs.Step2.{after-length, summands-high, summands-marked}
@@ -111,7 +111,7 @@ step1-code room n m hm hn cols d f both set ld lf ed ef eb es =
     (es ∙ ap (λ (l : List ℕ). maskOf (marked l) n) (eb ∙ ap₂ (λ (a b : List ℕ). (a ++ b) ++ replicate (room - (n - m + m)) 0) td tf))
 
 -- ---- step 2: the set holds the marked columns of φ, and the entries are those of φ
-module _ (room n m : ℕ) (hm : m ≤ room) (cols : List ℕ) (hf : length (phi m cols) ≡ m) (tail part : List ℕ) (hp : part ≡ phi m cols ++ tail) (hc : (i : ℕ) → getD part i 0 < 2 ^ 32)
+module _ (room n m : ℕ) (hm : m ≤ room) (cols : List ℕ) (hf : length (phi m cols) ≡ m) (tail part : List ℕ) (hp : part ≡ phi m cols ++ tail) (hc : (i : ℕ) → getD part i 0 < 2 ^ WORD)
     (set : ℕ) (is : set ≡ maskOf (marked part) m) (e : Echelon) (he : e ≡ built room part m) where
   part-at : (j : ℕ) → j < m → getD part j 0 ≡ getD (phi m cols) j 0
   part-at j h = ap (λ (l : List ℕ). getD l j 0) hp ∙ List·getD-append (phi m cols) tail 0 j (omega arith)
@@ -120,8 +120,8 @@ module _ (room n m : ℕ) (hm : m ≤ room) (cols : List ℕ) (hf : length (phi 
   set-is j h =
       ap (λ (s : ℕ). bit s j) is ∙ mask-bit (marked part) m j h ∙ ap (λ (l : List ℕ). oneIf (marked l j)) hp ∙ ap oneIf (marked-front (phi m cols) tail j (omega arith))
 
-  small : (i : ℕ) → getD (phi m cols) i 0 < 2 ^ 32
-  small i = ⊎-elim (λ (h : m ≤ i). subst (λ (v : ℕ). v < 2 ^ 32) (sym (List·getD-eq-default (phi m cols) 0 {n = i} (omega arith))) (pow-pos 32)) (λ (h : i < m). subst (λ (v : ℕ). v < 2 ^ 32) (part-at i h) (hc i)) (le-or-lt m i)
+  small : (i : ℕ) → getD (phi m cols) i 0 < 2 ^ WORD
+  small i = ⊎-elim (λ (h : m ≤ i). subst (λ (v : ℕ). v < 2 ^ WORD) (sym (List·getD-eq-default (phi m cols) 0 {n = i} (omega arith))) (pow-pos WORD)) (λ (h : i < m). subst (λ (v : ℕ). v < 2 ^ WORD) (part-at i h) (hc i)) (le-or-lt m i)
 
   entries : e ≡ built room (phi m cols) m
   entries = he ∙ built-same room part (phi m cols) m part-at
@@ -144,14 +144,14 @@ module _ (room n m : ℕ) (hm : m ≤ room) (cols : List ℕ) (hf : length (phi 
       go h false q =
           ap (λ (b : Bool). times (oneIf b) x) (test h false q) ∙ sym (times-not 1 x (λ z. omega (arith, z)))
           ∙ ap₂ (λ (r : Echelon) (v : ℕ). used (r .vectors) (r .pivots) (r .tags) (r .count) v) entries (part-at j h)
-          ∙ summands-used room m cols 32 (le-refl 32) hm small j h q
+          ∙ summands-used room m cols WORD (le-refl WORD) hm small j h q
 
 pub step2-length : (n m : ℕ) (cols : List ℕ) → length (step2 n m cols) ≡ n
 unfolding step2
 step2-length n m cols = adding-length (summands m cols) n
 
 -- the same of arrays: φ with zeros after it
-pub step2-code : (room n m : ℕ) → m ≤ n → n ≤ room → (cols f : List ℕ) (set : ℕ) (e : Echelon) → length f ≡ room → ((i : ℕ) → getD f i 0 < 2 ^ 32)
+pub step2-code : (room n m : ℕ) → m ≤ n → n ≤ room → (cols f : List ℕ) (set : ℕ) (e : Echelon) → length f ≡ room → ((i : ℕ) → getD f i 0 < 2 ^ WORD)
     → f ≡ map (λ v. v / 2 ^ m) (take (m - 0) (drop 0 cols)) ++ replicate (room - (m - 0)) 0 → set ≡ maskOf (marked f) m → e ≡ built room f m → (j : ℕ) → j < n
     → bitXor (2 ^ j) (times (oneIf (bare set 0 m j)) (used (e .vectors) (e .pivots) (e .tags) (e .count) (getD f j 0))) ≡ getD (step2 n m (take n cols)) j 0
 unfolding step2

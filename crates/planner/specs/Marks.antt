@@ -7,7 +7,7 @@ use lib.Count.{trailingZeros}
 use lib.Dec.{eqb, leb, ltb}
 use Rattle.algebra.specs.Matrix.{oneIf}
 use Rattle.algebra.specs.Search.{which}
-use Rattle.algebra.specs.Vector.{bit, times}
+use Rattle.algebra.specs.Vector.{WORD, bit, times}
 
 -- those of the first k that pass p
 unfoldable pub maskOf : (ℕ → Bool) → ℕ → ℕ
@@ -20,7 +20,7 @@ placesOf k set = which (λ i. eqb (bit set i) 1) k 0
 
 -- the lowest alone; nothing, where there is none
 unfoldable pub lowestOf : ℕ → ℕ
-lowestOf set = times set (2 ^ trailingZeros 32 set)
+lowestOf set = times set (2 ^ trailingZeros WORD set)
 
 -- j is one of the columns from..to, and not in the set, in which they are numbered from 0 on
 unfoldable pub bare : ℕ → ℕ → ℕ → ℕ → Bool

@@ -21,7 +21,7 @@ use Rattle.algebra.proofs.Linear.{comb-append, comb-zero}
 use Rattle.algebra.proofs.Search.{below-suc}
 use Rattle.algebra.specs.Elimination.{Echelon, built, choose, grown, rest, used, withEntry}
 use Rattle.algebra.specs.Matrix.{marked}
-use Rattle.algebra.specs.Vector.{bit, comb, times}
+use Rattle.algebra.specs.Vector.{WORD, bit, comb, times}
 use Rattle.planning.proofs.Marks.{Only, only-xor}
 use Rattle.planning.proofs.Round.{eraser-one, eraser-right}
 use Rattle.planning.proofs.Step1.{reached-elim, reached-intro}
@@ -63,7 +63,7 @@ used-only p n ws qs ts (suc k) v h =
     only-xor p n (used ws qs ts k v) (times (bit (rest ws qs k v) (getD qs k 0)) (getD ts k 0)) (used-only p n ws qs ts k v (λ i l. h i (le-trans l (le-suc k))))
     (only-times p n (bit (rest ws qs k v) (getD qs k 0)) (getD ts k 0) (h k (le-refl (suc k))))
 
-pub tags-only : (room : ℕ) (cols : List ℕ) (w : ℕ) → w ≤ 32 → ((i : ℕ) → getD cols i 0 < 2 ^ w) → (n j : ℕ) → j ≤ room → (i : ℕ) → i < built room cols j .count → Only (marked cols) n (getD (built room cols j .tags) i 0)
+pub tags-only : (room : ℕ) (cols : List ℕ) (w : ℕ) → w ≤ WORD → ((i : ℕ) → getD cols i 0 < 2 ^ w) → (n j : ℕ) → j ≤ room → (i : ℕ) → i < built room cols j .count → Only (marked cols) n (getD (built room cols j .tags) i 0)
 unfolding built
 tags-only room cols w hw hc n zero hj = λ i h. absurd (not-suc-le-zero h)
 tags-only room cols w hw hc n (suc j) hj = step (built room cols j) (built-is room cols w hw hc j (omega arith)) (tags-only room cols w hw hc n j (omega arith))
@@ -91,7 +91,7 @@ tags-only room cols w hw hc n (suc j) hj = step (built room cols j) (built-is ro
             i (subst (λ (k : ℕ). i < k) (add-one (e .count)) h)
 
 -- step 2: what the elimination of φ uses for an unmarked column is the sum that the definition takes
-pub summands-used : (room m : ℕ) (cols : List ℕ) (w : ℕ) → w ≤ 32 → m ≤ room → ((i : ℕ) → getD (phi m cols) i 0 < 2 ^ w) → (j : ℕ) → j < m → marked (phi m cols) j ≡ false
+pub summands-used : (room m : ℕ) (cols : List ℕ) (w : ℕ) → w ≤ WORD → m ≤ room → ((i : ℕ) → getD (phi m cols) i 0 < 2 ^ w) → (j : ℕ) → j < m → marked (phi m cols) j ≡ false
     → used (built room (phi m cols) m .vectors) (built room (phi m cols) m .pivots) (built room (phi m cols) m .tags) (built room (phi m cols) m .count) (getD (phi m cols) j 0) ≡ summands m cols j
 summands-used room m cols w hw hm hc j hj e =
     let F = phi m cols in
@@ -103,7 +103,7 @@ summands-used room m cols w hw hm hc j hj e =
     (solved-zero F m (b .vectors) (b .pivots) (b .tags) (b .count) (g .basis) v (g .basis .span j hj))
 
 -- E: what the elimination of δ uses for a column of φ is the set that the definition takes
-pub eraser-used : (room : ℕ) → room ≤ 32 → (n b m : ℕ) (hm : m ≤ n) (cols : List ℕ) (small : (y : ℕ) → comb cols y < 2 ^ n) (trailing : (t : ℕ) → t < 2 ^ (n - m) → comb (delta m cols) t ≡ 0 → t ≡ 0)
+pub eraser-used : (room : ℕ) → room ≤ WORD → (n b m : ℕ) (hm : m ≤ n) (cols : List ℕ) (small : (y : ℕ) → comb cols y < 2 ^ n) (trailing : (t : ℕ) → t < 2 ^ (n - m) → comb (delta m cols) t ≡ 0 → t ≡ 0)
     → n - m ≤ room → ((i : ℕ) → getD (delta m cols) i 0 < 2 ^ (n - m)) → (j : ℕ) → b ≤ j → j < m → zeroColumn (phi m cols) j ≡ false
     → eraser n b m cols j ≡ used (built room (delta m cols) (n - m) .vectors) (built room (delta m cols) (n - m) .pivots) (built room (delta m cols) (n - m) .tags) (built room (delta m cols) (n - m) .count) (getD (phi m cols) j 0) * 2 ^ m
 eraser-used room hroom n b m hm cols small trailing hd hc j hb hj e =

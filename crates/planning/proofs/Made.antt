@@ -2,7 +2,7 @@
 use mathlib.Core.Path.{_∙_, _≡_, ap, refl, subst, sym}
 use mathlib.Core.Bool.{false, true}
 use mathlib.Core.List.{List, [], _∷_}
-use Prim.Native.Nat.{_+_, _-_, _<_, _^_, _≤_, suc, zero, zero-le, ℕ}
+use Prim.Native.Nat.{_+_, _-_, _<_, _^_, _≤_, suc, zero, ℕ}
 use native.Mathlib.Omega.{arith}
 use lib.Pow.{pow-pos}
 use lib.ListN.{getD, length}
@@ -14,13 +14,13 @@ use Rattle.algebra.specs.Matrix.{columns, rank, singular, spills, target}
 use Rattle.algebra.proofs.Lists.{all-at, at-all}
 use Rattle.planning.proofs.Bound.{passes-bound}
 use Rattle.planning.proofs.Run.{plan-half, plan-length, plan-moves, plan-runs}
-use Rattle.planning.proofs.Running.{runs-back, runs→sound, sound-allowed, sound-dry, sound→can-run, sound→checked}
+use Rattle.planning.proofs.Running.{runs-back, runs→sound, sound-allowed, sound-dry}
 use Rattle.planning.proofs.Runs.{MatrixRuns}
 use Rattle.planning.proofs.Stored.{route-length}
 use Rattle.planning.specs.Columns.{phi}
 use Rattle.planning.specs.Making.{dividedUp, passMatrices, passesFor}
 use Rattle.planning.specs.Pass.{complemented, passIn, performed}
-use Rattle.planning.specs.Running.{Runs, canRun, sound}
+use Rattle.planning.specs.Running.{Runs, sound}
 use Rattle.planning.specs.Stored.{planFor, routeOf}
 use Rattle.planning.specs.declared.Plan.{Plan}
 
@@ -100,13 +100,10 @@ module _ (g : Geometry) (rows : List ℕ) (c : ℕ) (hg : inLimits g ≡ true) (
     unfolding planFor
     made-route = runs-back (record { geometry = g; passes = passesFor g rows c }) made-runs
 
-    -- .. and is one that can run, from the start
+    -- .. and is one that can run
     pub made-sound : sound (planFor g rows c) ≡ true
     unfolding planFor
     made-sound = runs→sound (record { geometry = g; passes = passesFor g rows c }) made-runs
-
-    pub made-can-run : canRun (planFor g rows c) 0 ≡ true
-    made-can-run = sound→can-run (planFor g rows c) 0 made-sound zero-le
 
 -- ---- any sound plan that performs an order, whoever made it
 module _ (plan : Plan) (e : sound plan ≡ true) (rows : List ℕ) (c : ℕ)
@@ -119,7 +116,3 @@ module _ (plan : Plan) (e : sound plan ≡ true) (rows : List ℕ) (c : ℕ)
       (at-all (record { rows = []; complement = 0 }) (λ p. spills (plan .geometry .b) (plan .geometry .m) (p .rows) ≡ false) (routeOf plan .passes)
       (λ p h. sound-dry plan e p (subst (λ (k : ℕ). p < k) (route-length plan) h)))
       does)
-
-  -- and ours is at most one longer
-  pub made-near : length rows ≡ plan .geometry .n → singular (plan .geometry .n) rows ≡ false → length (passesFor (plan .geometry) rows c) ≤ plan .count + 1
-  made-near hr hs = omega (arith, runs-bound, made-length (plan .geometry) rows c (sound→checked plan e .limits) hr hs)

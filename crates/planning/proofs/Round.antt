@@ -25,6 +25,7 @@ use Rattle.planning.proofs.Parts.{delta-comb, phi-at}
 use Rattle.planning.proofs.Step2.{after-length}
 use Rattle.planning.specs.Columns.{adding, after, delta, phi, placing, zeroColumn}
 use Rattle.planning.specs.Making.{RoundReady, eraser, erases, partner, swaps}
+use Rattle.planning.specs.Facts.{nonzero}
 
 pub shl-linear : (m : ℕ) → Linear (λ t. t * 2 ^ m)
 shl-linear m = record {
@@ -279,10 +280,6 @@ swap-count nz b (x ∷ xs) (y ∷ ys) ax ay lx ly tx ty =
     omega (arith, ih, one)
 
 -- ---- what a round keeps
-
--- how many columns of φ are not zero
-unfoldable pub nonzero : ℕ → List ℕ → ℕ
-nonzero m cols = length (which (λ j. not (zeroColumn (phi m cols) j)) m 0)
 
 module _ (n b m : ℕ) (hb : b ≤ m) (hm : m ≤ n) (cols : List ℕ) (k : RoundReady n m cols) where
   abbrev s : List ℕ

@@ -22,11 +22,12 @@ use Rattle.algebra.specs.Search.{which}
 use Rattle.algebra.specs.Vector.{comb}
 use Rattle.planning.proofs.Acts.{comb-after}
 use Rattle.planning.proofs.Parts.{phi-comb}
-use Rattle.planning.proofs.Round.{E-dry, S-low, S-lt, S-twice, erases-lt, erases-twice, next-is, next-nonzero, next-ready, nonzero}
+use Rattle.planning.proofs.Round.{E-dry, S-low, S-lt, S-twice, erases-lt, erases-twice, next-is, next-nonzero, next-ready}
 use Rattle.planning.proofs.Step2.{after-length}
 use Rattle.planning.specs.Columns.{after, phi, placing, zeroColumn}
 use Rattle.planning.specs.Making.{RoundReady, busy, dividedUp, erases, partner, rounds, swaps}
 use Rattle.planning.specs.Pass.{Pass, complemented, performed}
+use Rattle.planning.specs.Facts.{Ends, erased, nonzero}
 
 -- ---- whether φ is zero
 all-of-none : (P : ℕ → Type 0) (l : List ℕ) → length l ≡ 0 → All P l
@@ -61,7 +62,7 @@ rounds-stop zero n b m cols e = refl
 rounds-stop (suc g) n b m cols e = rw (rounds, e)
 
 pub rounds-go : (g n b m : ℕ) (cols : List ℕ) → busy m cols ≡ true
-    → rounds (suc g) n b m cols ≡ after (erases n b m (after cols (swaps n b m cols))) (swaps n b m cols) ∷ rounds g n b m (after (after cols (swaps n b m cols)) (erases n b m (after cols (swaps n b m cols))))
+    → rounds (suc g) n b m cols ≡ after (erases n b m (after cols (swaps n b m cols))) (swaps n b m cols) ∷ rounds g n b m (erased n b m cols)
 unfolding rounds
 rounds-go g n b m cols e = rw (rounds, e)
 
@@ -148,15 +149,12 @@ module _ (n b m : ℕ) (hb : b ≤ m) (hm : m ≤ n) where
     dry = λ z h e. ap (λ (u : ℕ). u / 2 ^ m) (comb-after p q z) ∙ g .dry (comb q z) (low z h) (ap (λ (u : ℕ). u / 2 ^ b % 2 ^ (m - b)) (sym (comb-after p q z)) ∙ e);
   }
 
-  abbrev nx : List ℕ → List ℕ
-  nx cols = after (after cols (swaps n b m cols)) (erases n b m (after cols (swaps n b m cols)))
-
   -- every pass can run
   pub rounds-good : b < m → (g : ℕ) (cols : List ℕ) → RoundReady n m cols → nonzero m cols ≤ g → All (Good n b m) (rounds g n b m cols)
   rounds-good hlt zero cols k h = subst (All (Good n b m)) (sym (rounds-stop zero n b m cols (idle m cols (omega arith)))) (last-good cols k (omega arith), tt)
-  rounds-good hlt (suc g) cols k h = go (busy m cols) refl (λ q. rounds-good hlt g (nx cols) (next-ready n b m hb hm cols k) (omega (arith, next-nonzero n b m hb hm cols k, q)))
+  rounds-good hlt (suc g) cols k h = go (busy m cols) refl (λ q. rounds-good hlt g (erased n b m cols) (next-ready n b m hb hm cols k) (omega (arith, next-nonzero n b m hb hm cols k, q)))
     where
-      go : (x : Bool) → busy m cols ≡ x → (0 < nonzero m cols → All (Good n b m) (rounds g n b m (nx cols))) → All (Good n b m) (rounds (suc g) n b m cols)
+      go : (x : Bool) → busy m cols ≡ x → (0 < nonzero m cols → All (Good n b m) (rounds g n b m (erased n b m cols))) → All (Good n b m) (rounds (suc g) n b m cols)
       go false e ih = subst (All (Good n b m)) (sym (rounds-stop (suc g) n b m cols e)) (last-good cols k (idle-none m cols e), tt)
       go true e ih = subst (All (Good n b m)) (sym (rounds-go g n b m cols e)) (round-good cols k, ih (busy-some m cols e))
 
@@ -164,9 +162,9 @@ module _ (n b m : ℕ) (hb : b ≤ m) (hm : m ≤ n) where
   pub rounds-length : b < m → (g : ℕ) (cols : List ℕ) → RoundReady n m cols → nonzero m cols ≤ g → length (rounds g n b m cols) ≡ suc (dividedUp (nonzero m cols) (m - b))
   rounds-length hlt zero cols k h =
       ap length (rounds-stop zero n b m cols (idle m cols (omega arith))) ∙ ap suc (sym (ap (λ (u : ℕ). dividedUp u (m - b)) (omega arith) ∙ up-zero (m - b) (omega arith)))
-  rounds-length hlt (suc g) cols k h = go (busy m cols) refl (λ q. rounds-length hlt g (nx cols) (next-ready n b m hb hm cols k) (omega (arith, next-nonzero n b m hb hm cols k, q)))
+  rounds-length hlt (suc g) cols k h = go (busy m cols) refl (λ q. rounds-length hlt g (erased n b m cols) (next-ready n b m hb hm cols k) (omega (arith, next-nonzero n b m hb hm cols k, q)))
     where
-      go : (x : Bool) → busy m cols ≡ x → (0 < nonzero m cols → length (rounds g n b m (nx cols)) ≡ suc (dividedUp (nonzero m (nx cols)) (m - b))) → length (rounds (suc g) n b m cols) ≡ suc (dividedUp (nonzero m cols) (m - b))
+      go : (x : Bool) → busy m cols ≡ x → (0 < nonzero m cols → length (rounds g n b m (erased n b m cols)) ≡ suc (dividedUp (nonzero m (erased n b m cols)) (m - b))) → length (rounds (suc g) n b m cols) ≡ suc (dividedUp (nonzero m cols) (m - b))
       go false e ih = ap length (rounds-stop (suc g) n b m cols e) ∙ ap suc (sym (ap (λ (u : ℕ). dividedUp u (m - b)) (idle-none m cols e) ∙ up-zero (m - b) (omega arith)))
       go true e ih =
           let z = busy-some m cols e in
@@ -190,7 +188,7 @@ module _ (n b m : ℕ) (hb : b ≤ m) (hm : m ≤ n) where
   pub rounds-move : (g : ℕ) (cols : List ℕ) → RoundReady n m cols → (c x : ℕ) → x < 2 ^ n → performed (complemented (map (columns n) (rounds g n b m cols)) c) x ≡ bitXor (comb cols x) c
   unfolding rounds performed complemented
   rounds-move zero cols k c x h = pass-moves cols c x (k .small x)
-  rounds-move (suc g) cols k c x h = go (busy m cols) refl (λ y l. rounds-move g (nx cols) (next-ready n b m hb hm cols k) c y l)
+  rounds-move (suc g) cols k c x h = go (busy m cols) refl (λ y l. rounds-move g (erased n b m cols) (next-ready n b m hb hm cols k) c y l)
     where
       s : List ℕ
       s = swaps n b m cols
@@ -204,7 +202,7 @@ module _ (n b m : ℕ) (hb : b ≤ m) (hm : m ≤ n) where
       y-lt : y < 2 ^ n
       y-lt = round-good cols k .small x
 
-      y-is : comb (nx cols) y ≡ comb cols x
+      y-is : comb (erased n b m cols) y ≡ comb cols x
       y-is =
           next-is n b m hb hm cols k y ∙ ap (λ (u : ℕ). comb cols (comb s (comb e u))) (comb-after e s x)
           ∙ ap (λ (u : ℕ). comb cols (comb s u)) (erases-twice n b m hb hm cols k (comb s x) (S-lt n b m hb hm cols x)) ∙ ap (comb cols) (S-twice n b m hb hm cols x h)
@@ -212,37 +210,28 @@ module _ (n b m : ℕ) (hb : b ≤ m) (hm : m ≤ n) where
       all : List (List ℕ) → ℕ
       all l = performed (complemented (map (columns n) l) c) x
 
-      go : (q : Bool) → busy m cols ≡ q → ((y : ℕ) → y < 2 ^ n → performed (complemented (map (columns n) (rounds g n b m (nx cols))) c) y ≡ bitXor (comb (nx cols) y) c) → all (rounds (suc g) n b m cols) ≡ bitXor (comb cols x) c
+      go : (q : Bool) → busy m cols ≡ q → ((y : ℕ) → y < 2 ^ n → performed (complemented (map (columns n) (rounds g n b m (erased n b m cols))) c) y ≡ bitXor (comb (erased n b m cols) y) c) → all (rounds (suc g) n b m cols) ≡ bitXor (comb cols x) c
       go false q ih = ap all (rounds-stop (suc g) n b m cols q) ∙ pass-moves cols c x (k .small x)
       go true q ih =
           ap all (rounds-go g n b m cols q)
-          ∙ ap (λ (l : List Pass). performed l x) (complemented-more (columns n (after e s)) (map (columns n) (rounds g n b m (nx cols))) c (rounds-some g (nx cols)))
-          ∙ ap (performed (complemented (map (columns n) (rounds g n b m (nx cols))) c)) (pass-moves (after e s) 0 x y-lt ∙ xor-zero-r y)
+          ∙ ap (λ (l : List Pass). performed l x) (complemented-more (columns n (after e s)) (map (columns n) (rounds g n b m (erased n b m cols))) c (rounds-some g (erased n b m cols)))
+          ∙ ap (performed (complemented (map (columns n) (rounds g n b m (erased n b m cols))) c)) (pass-moves (after e s) 0 x y-lt ∙ xor-zero-r y)
           ∙ ih y y-lt ∙ ap (λ (u : ℕ). bitXor u c) y-is
 
 -- ---- where the rounds end
--- the last of a list of matrices passes P
-abbrev pub Ends : (List ℕ → Type 0) → List (List ℕ) → Type 0
-Ends P [] = ⊥
-Ends P (p ∷ []) = P p
-Ends P (p ∷ q ∷ ps) = Ends P (q ∷ ps)
-
 ends-more : (P : List ℕ → Type 0) (p : List ℕ) (ps : List (List ℕ)) → Ends P ps → Ends P (p ∷ ps)
 ends-more P p [] e = absurd e
 ends-more P p (q ∷ ps) e = e
 
 module _ (n b m : ℕ) (hb : b < m) (hm : m ≤ n) where
-  abbrev next : List ℕ → List ℕ
-  next cols = after (after cols (swaps n b m cols)) (erases n b m (after cols (swaps n b m cols)))
-
-  fewer : (g : ℕ) (cols : List ℕ) → RoundReady n m cols → nonzero m cols ≤ suc g → busy m cols ≡ true → nonzero m (next cols) ≤ g
+  fewer : (g : ℕ) (cols : List ℕ) → RoundReady n m cols → nonzero m cols ≤ suc g → busy m cols ≡ true → nonzero m (erased n b m cols) ≤ g
   fewer g cols k h e = omega (arith, next-nonzero n b m (omega arith) hm cols k, busy-some m cols e)
 
   -- while φ has nonzero columns: at the end it has none
-  pub rounds-end : (g : ℕ) (cols : List ℕ) → RoundReady n m cols → nonzero m cols ≤ g → Ends (λ p. nonzero m p ≡ 0) (rounds g n b m cols)
-  rounds-end zero cols k h = subst (Ends (λ p. nonzero m p ≡ 0)) (sym (rounds-stop zero n b m cols (idle m cols (omega arith)))) (omega arith)
-  rounds-end (suc g) cols k h = go (busy m cols) refl (λ q. rounds-end g (next cols) (next-ready n b m (omega arith) hm cols k) (fewer g cols k h q))
+  pub rounds-end : (g : ℕ) (cols : List ℕ) → RoundReady n m cols → nonzero m cols ≤ g → Ends (λ f. busy m f ≡ false) (rounds g n b m cols)
+  rounds-end zero cols k h = let e = idle m cols (omega arith) in subst (Ends (λ f. busy m f ≡ false)) (sym (rounds-stop zero n b m cols e)) e
+  rounds-end (suc g) cols k h = go (busy m cols) refl (λ q. rounds-end g (erased n b m cols) (next-ready n b m (omega arith) hm cols k) (fewer g cols k h q))
     where
-      go : (x : Bool) → busy m cols ≡ x → (busy m cols ≡ true → Ends (λ p. nonzero m p ≡ 0) (rounds g n b m (next cols))) → Ends (λ p. nonzero m p ≡ 0) (rounds (suc g) n b m cols)
-      go false e ih = subst (Ends (λ p. nonzero m p ≡ 0)) (sym (rounds-stop (suc g) n b m cols e)) (idle-none m cols e)
-      go true e ih = subst (Ends (λ p. nonzero m p ≡ 0)) (sym (rounds-go g n b m cols e)) (ends-more (λ p. nonzero m p ≡ 0) (after (erases n b m (after cols (swaps n b m cols))) (swaps n b m cols)) (rounds g n b m (next cols)) (ih e))
+      go : (x : Bool) → busy m cols ≡ x → (busy m cols ≡ true → Ends (λ f. busy m f ≡ false) (rounds g n b m (erased n b m cols))) → Ends (λ f. busy m f ≡ false) (rounds (suc g) n b m cols)
+      go false e ih = subst (Ends (λ f. busy m f ≡ false)) (sym (rounds-stop (suc g) n b m cols e)) e
+      go true e ih = subst (Ends (λ f. busy m f ≡ false)) (sym (rounds-go g n b m cols e)) (ends-more (λ f. busy m f ≡ false) (after (erases n b m (after cols (swaps n b m cols))) (swaps n b m cols)) (rounds g n b m (erased n b m cols)) (ih e))

@@ -23,7 +23,6 @@ use Rattle.planning.proofs.Acts.{comb-after}
 use Rattle.planning.proofs.Dimension.{rank-which, span-le, spread, spread-inj, spread-lt, spread-only}
 use Rattle.planning.proofs.Marks.{marks-one}
 use Rattle.planning.proofs.Parts.{phi-comb}
-use Rattle.planning.proofs.Round.{nonzero}
 use Rattle.planning.proofs.Rounds.{Good, after-good, idle, pass-moves, rounds-good, rounds-length, rounds-move, rounds-stop, up-le}
 use Rattle.planning.proofs.Runs.{MatrixRuns}
 use Rattle.planning.proofs.Step1.{delta-regular}
@@ -31,6 +30,7 @@ use Rattle.planning.proofs.Step2.{after-length, delta-moved, moved-rank
 use Rattle.planning.specs.Columns.{after, phi, undone}
 use Rattle.planning.specs.Making.{RoundReady, dividedUp, firstAfter, operations, passMatrices, rounds}
 use Rattle.planning.specs.Pass.{complemented, performed}
+use Rattle.planning.specs.Facts.{nonzero}
 
 -- a good pass can run
 pub good-runs : (n b m : ℕ) (p : List ℕ) → m ≤ n → Good n b m p → MatrixRuns n b m (columns n p)

@@ -20,6 +20,7 @@ use Rattle.planning.specs.Pass.{Pass, Route, passAt, passIn, total}
 use Rattle.planning.specs.Running.{Runs, canRun, countInLimits, singularPass, sound, meantZero, spareComplement, spareRow, spillingPass, strayComplement, strayRow}
 use Rattle.planning.specs.Stored.{planOf, routeOf, storedComplements, storedPass, storedRows}
 use Rattle.planning.specs.declared.Plan.{Plan}
+use Rattle.planning.specs.declared.state.State.{State}
 
 -- the conditions of number 7, one by one
 pub record Checked (plan : Plan) : Type 0 where
@@ -138,14 +139,14 @@ sound→runs plan long e = record {
     complement p = unfold storedPass in refl
 
 -- ---- the state's next step
-module _ (plan : Plan) (next : ℕ) where
-  pub can-run→sound : canRun plan next ≡ true → sound plan ≡ true
+module _ (plan : Plan) (state : State) where
+  pub can-run→sound : canRun plan state ≡ true → sound plan ≡ true
   unfolding canRun
   can-run→sound e = and-l (sound plan) _ e
 
-  pub sound→can-run : sound plan ≡ true → next ≤ total (routeOf plan) → canRun plan next ≡ true
+  pub sound→can-run : sound plan ≡ true → state .next .0 ≤ total (routeOf plan) → canRun plan state ≡ true
   unfolding canRun
-  sound→can-run e h = and-both (sound plan) (leb next (total (routeOf plan))) e (le-leb next (total (routeOf plan)) h)
+  sound→can-run e h = and-both (sound plan) (leb (state .next .0) (total (routeOf plan))) e (le-leb (state .next .0) (total (routeOf plan)) h)
 
 -- ---- a route that can run, stored, is a sound plan
 or-cases : (a b : Bool) → a || b ≡ true → (a ≡ true) ⊎ (b ≡ true)

@@ -1,18 +1,10 @@
--- What does a proof get of a matrix that planning takes, and of the matrix of a pass? Assumes nothing.
+-- What does a proof get of the matrix of a pass? Assumes nothing.
 use mathlib.Core.Path.{_≡_}
 use mathlib.Core.Bool.{false}
 use mathlib.Core.List.{List}
 use Prim.Native.Nat.{_<_, _^_, ℕ}
 use lib.ListN.{getD, length}
 use Rattle.algebra.specs.Matrix.{singular, spills}
-
--- a matrix that planning takes: the geometry so far as the passes need it, n rows below 2 ^ n, nonsingular
-pub record Taken (n b m : ℕ) (rows : List ℕ) : Type 0 where
-  pub below : b < m
-  pub within : m < n
-  pub count : length rows ≡ n
-  pub small : (i : ℕ) → i < n → getD rows i 0 < 2 ^ n
-  pub regular : singular n rows ≡ false
 
 -- the matrix of a pass that can run
 pub record MatrixRuns (n b m : ℕ) (rows : List ℕ) : Type 0 where

@@ -5,6 +5,8 @@ use lib.ListN.{length, getD}
 use Rattle.bank.specs.declared.Geometry.{Geometry}
 use Rattle.bank.specs.Geometry.{records, block, drives, stripes}
 use Rattle.algebra.specs.Matrix.{target}
+use Rattle.planning.specs.declared.Phase.{Phase}
+use Rattle.planning.specs.declared.Phase.the-variants.{Reads, Writes}
 
 -- a pass takes x to Fx xor f, where F is its matrix and f its complement
 pub record Pass : Type 0 where
@@ -34,17 +36,17 @@ complemented [] c = []
 complemented (f ∷ []) c = record { rows = f; complement = c } ∷ []
 complemented (f ∷ (g ∷ fs)) c = record { rows = f; complement = 0 } ∷ complemented (g ∷ fs) c
 
--- the phases of a memoryload: its reads, then its writes
-unfoldable pub phases : Route → ℕ
-phases route = 2
+-- the phases of a memoryload, in their order
+unfoldable pub phases : Route → List Phase
+phases route = Reads ∷ Writes ∷ []
 
 -- the steps of a memoryload: M/(BD) in each phase
 unfoldable pub loadSteps : Route → ℕ
-loadSteps route = phases route * stripes (route .geometry)
+loadSteps route = length (phases route) * stripes (route .geometry)
 
--- the steps of a pass: 2N/(BD)
+-- the steps of a pass: N/(BD) in each phase
 unfoldable pub passSteps : Route → ℕ
-passSteps route = phases route * records (route .geometry) / (block (route .geometry) * drives (route .geometry))
+passSteps route = length (phases route) * records (route .geometry) / (block (route .geometry) * drives (route .geometry))
 
 -- the total: the steps of a pass times the number of passes
 unfoldable pub total : Route → ℕ

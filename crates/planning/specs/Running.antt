@@ -12,6 +12,7 @@ use Rattle.algebra.specs.Matrix.{singular, spills}
 use Rattle.planning.specs.Pass.{Pass, Route, passAt, total}
 use Rattle.planning.specs.Stored.{routeOf}
 use Rattle.planning.specs.declared.Plan.{Plan}
+use Rattle.planning.specs.declared.state.State.{State}
 
 -- the pass count is 1 to as many as there is room for
 unfoldable pub countInLimits : Plan → Bool
@@ -52,8 +53,8 @@ sound plan =
     && not (singularPass plan) && not (spillingPass plan)
 
 -- and the state's next step isn't above the total
-unfoldable pub canRun : Plan → ℕ → Bool
-canRun plan next = sound plan && leb next (total (routeOf plan))
+unfoldable pub canRun : Plan → State → Bool
+canRun plan state = sound plan && leb (state .next .0) (total (routeOf plan))
 
 -- ---- what a plan that can run gives, one by one
 

@@ -1,4 +1,6 @@
-// The plan of passes: definitions and laws, no code. The struct stands here so that the definitions can speak of it.
+// The plan of passes and the state of its steps: definitions and laws. The types stand here so that the definitions can speak of them.
+pub mod state; // state.rt: the state, which goes in and comes back
+
 use bank::Geometry;
 use bank::PASSES;
 use bank::PLACES;
@@ -9,4 +11,10 @@ pub struct Plan {
     pub count: u32,
     pub rows: [u32; PLACES],
     pub complements: [u32; PASSES],
+}
+
+// The phases of a memoryload.
+pub enum Phase {
+    Reads,
+    Writes,
 }

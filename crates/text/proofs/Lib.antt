@@ -4,6 +4,7 @@ pub mod RowLines
 pub mod Rest
 pub mod Joined
 pub mod OneText
+pub mod Some
 pub mod Main
 pub mod Put
 pub mod Decimal

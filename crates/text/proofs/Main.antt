@@ -12,9 +12,11 @@ use Rattle.order.specs.declared.Order.{Order}
 use Rattle.order.specs.Order.{judgement}
 use Rattle.order.proofs.Accepted.{judgement→accepted}
 use Rattle.text.specs.OrderText.{orderText}
+use Rattle.text.specs.Parsing.{firstLineAt}
 use Rattle.text.specs.Reading.{Begins, Whole, Reads, no-first-line, outside, no-rest, singular, taken}
 use Rattle.text.proofs.FirstLine.{one-first-line}
 use Rattle.text.proofs.OneText.{begins-within, one-order}
+use Rattle.text.proofs.Some.{by-line}
 
 -- ---- one outcome
 module _ (text : List ℕ) (g h : Geometry) (b : Begins text g) (c : Begins text h) where
@@ -54,6 +56,10 @@ one-reading text k l o p (taken g q b i w j) (outside h c m) = absurd (out-and-i
 one-reading text k l o p (taken g q b i w j) (no-rest h c m n) = absurd (n q (whole-by text h g c b q w))
 one-reading text k l o p (taken g q b i w j) (singular h r c m v a) = absurd (three-and-none text h g c b r q m v w a j)
 one-reading text k l o p (taken g q b i w j) (taken h r c m v a) = (refl, one-order text g i q r w (whole-by text g h b c r v))
+
+-- ---- some outcome: a text, whichever it is, gives a number and an order
+pub some-reading : (text : List ℕ) → (k : ℕ) × (order : Order) × Reads text k order
+some-reading text = by-line text (firstLineAt text) refl
 
 -- ---- what is written is read
 pub read-written : (order : Order) → judgement order ≡ 0 → length (order .rows) ≡ ROWS → Reads (orderText order) 0 order

@@ -12,6 +12,7 @@ use lib.Pow.{pow-mono}
 use Rattle.bank.specs.Limits.{ROWS}
 use Rattle.algebra.proofs.Digits.{half-lt, bin-ext}
 use Rattle.algebra.proofs.Lists.{getD-zeros}
+use Rattle.algebra.specs.Vector.{WORD}
 use Rattle.text.specs.Lines.{line, bits, rowLines}
 use Rattle.text.specs.Parsing.{digitOf, digitAt}
 use Rattle.text.specs.Found.{RowAt, RowsFound, NoRows}
@@ -86,9 +87,9 @@ module _ (s : List ℕ) (at n i v d : ℕ) (some : 0 < i) (upto : i ≤ n) (low 
       digit-cons s (at + (i - 1)) (omega arith) ∙ rw (f, is, e, p, q, read)
 
 -- the bits read so far fit, with one more
-pub row-fits : (n i v d : ℕ) → n ≤ ROWS → 0 < i → i ≤ n → v < 2 ^ (n - i) → d < 2 → v * 2 + d < 2 ^ 32
+pub row-fits : (n i v d : ℕ) → n ≤ ROWS → 0 < i → i ≤ n → v < 2 ^ (n - i) → d < 2 → v * 2 + d < 2 ^ WORD
 row-fits n i v d h some upto low digit =
-    let p : 2 ^ suc (n - i) ≤ 2 ^ 32 = pow-mono {i = suc (n - i)} {j = 32} (omega arith) in
+    let p : 2 ^ suc (n - i) ≤ 2 ^ WORD = pow-mono {i = suc (n - i)} {j = WORD} (omega arith) in
     omega (arith, pow-suc 2 (n - i))
 
 -- the bits, and then the line's end

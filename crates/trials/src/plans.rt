@@ -8,6 +8,7 @@ use plan::running::can_run;
 use plan::running::result_area;
 use plan::running::total_steps;
 use planning::Plan;
+use planning::state::State;
 
 // Number, passes, steps and result area.
 fn planned(asked: &[u8], o: Order) {
@@ -23,8 +24,9 @@ fn planned(asked: &[u8], o: Order) {
 }
 
 fn runs(asked: &[u8], p: Plan, next: u64) {
+    let s = State { next: Step(next) };
     let mut answer = 0u64;
-    if can_run(p, Step(next)) {
+    if can_run(p, s) {
         answer = 1;
     }
     say::one(asked, answer);

@@ -4,7 +4,6 @@ use crate::say;
 use bank::Address;
 use bank::Step;
 use mover::run::run;
-use mover::state::State;
 use mover::step::Stepped;
 use mover::step::step;
 use order::Order;
@@ -13,6 +12,7 @@ use plan::make::make_plan;
 use plan::running::result_area;
 use plan::running::total_steps;
 use planning::Plan;
+use planning::state::State;
 
 // The bytes of an area and of the memory in G, where a record has 8.
 const AREA: usize = 128;

@@ -5,6 +5,7 @@ use native.Mathlib.Omega.{arith}
 use native.Mathlib.Nat.{zero-mul, suc-mul}
 use lib.Bits.{bitXor, xor-lt}
 use lib.ListN.{length, length-take, length-drop}
+use Rattle.algebra.specs.Vector.{WORD}
 use Rattle.blocks.proofs.Filled.{filled, filled-all, filled-none, filled-turn, length-filled}
 use Rattle.moving.proofs.Bytes.{share}
 use Rattle.blocks.proofs.Places.{place-next, place-zero}
@@ -14,7 +15,7 @@ use Rattle.blocks.proofs.bytes.fill_block.Tie as tie
 
 abbrev Inv-loop : tie.InvT-loop
 Inv-loop block₀ memory columns base count r k₀ o₀ place₀ block k o place =
-    (k ≤ count) × (o ≡ k * r) × (block ≡ filled (placeBy base columns) r memory k block₀) × (place < 2 ^ 32) × (place ≡ placeBy base columns k)
+    (k ≤ count) × (o ≡ k * r) × (block ≡ filled (placeBy base columns) r memory k block₀) × (place < 2 ^ WORD) × (place ≡ placeBy base columns k)
 
 abbrev μ-loop : tie.MeasureT-loop
 μ-loop block₀ memory columns base count r k₀ o₀ place₀ block k o place = count - k
@@ -90,7 +91,7 @@ loop-again c =
       c .before .before .before .copy-part .ensures
           ∙ filled-turn (placeBy (x .base) (x .columns .now)) (x .r) (start turn .pre .0 .0) (x .memory .now) (x .block .now) (l .block) (l .k) (l .o) (l .place * x .r)
           (l .inv .1) (ap (λ (n : ℕ). n * x .r) (l .inv .4)) (l .inv .2) (in-memory turn),
-      xor-lt 32 (l .place) (c .flip .result) (l .inv .3) (omega (arith, c .flip .ok)),
+      xor-lt WORD (l .place) (c .flip .result) (l .inv .3) (omega (arith, c .flip .ok)),
       ap (bitXor (l .place)) (c .flip .ensures) ∙ ap (λ (n : ℕ). bitXor n (flips (x .columns .now) (l .k))) (l .inv .4) ∙ place-next (x .base) (x .columns .now) (l .k),
     )
 

@@ -4,8 +4,14 @@ use borrow.Author.Needs.{needs}
 use Rattle.blocks.proofs.moves.move_between.Statement.{statement}
 use Rattle.blocks.proofs.moves.move_between.Tie as tie
 
+enum-told : tie.Need-enum-told
+enum-told c = search needs
+
 read-step-requires : tie.Need-read-step-requires
 read-step-requires c κs = search needs
+
+enum-told-2 : tie.Need-enum-told-2
+enum-told-2 c = search needs
 
 write-step-requires : tie.Need-write-step-requires
 write-step-requires c κs = search needs
@@ -29,7 +35,9 @@ pub move-between-spec : {M : Type 1} → statement M
 move-between-spec =
     tie.close
     (tie.spec
+    enum-told
     read-step-requires
+    enum-told-2
     write-step-requires
     same-length
     returns

@@ -1,6 +1,7 @@
 -- `blocks::moves::move_step` meets its contract: the side that is read goes by the pass. Assumes nothing.
 use mathlib.Core.Bool.{true, false}
 use Prim.Native.Nat.{_%_}
+use Rattle.blocks.proofs.Paces.{pace-pos}
 use Rattle.blocks.proofs.Sides.{side-move, side-ready}
 use Rattle.moving.specs.Step.{buffersOf}
 use borrow.Author.Tests.{eq-eqb, ne-eqb}
@@ -9,7 +10,9 @@ use Rattle.blocks.proofs.moves.move_step.Statement.{statement}
 use Rattle.blocks.proofs.moves.move_step.Tie as tie
 
 turn-of-requires : tie.Need-turn-of-requires
-turn-of-requires c κs = search needs
+turn-of-requires c κs =
+    let s = c .before .before .before in
+    pace-pos (s .args .t .geometry) (s .args .t .pace) (s .pre .prepared .paced) (s .pre .prepared .ready .allowed)
 
 move-between-requires : tie.Need-move-between-requires
 move-between-requires c κs =

@@ -4,6 +4,7 @@ use Prim.Native.Nat.{ℕ, _+_, _-_, _*_, _%_, _^_, _≤_, _<_, zero-le}
 use native.Mathlib.Omega.{arith}
 use lib.Bits.{bitXor, xor-lt}
 use lib.ListN.{length}
+use Rattle.algebra.specs.Vector.{WORD}
 use Rattle.moving.proofs.Bytes.{length-copied}
 use Rattle.blocks.proofs.Drives.{drivesDone, drives-all, drives-none, drives-turn}
 use Rattle.blocks.proofs.Places.{place-next, place-zero}
@@ -14,7 +15,7 @@ use Rattle.blocks.proofs.moves.write_drives.Tie as tie
 abbrev Inv-loop : tie.InvT-loop
 Inv-loop area₀ blocks memory columns place places drives count r q₀ block₀ p₀ area q block p =
     (q ≤ drives) × (area ≡ drivesDone (placeBy (block₀ .0) blocks) drives (placeBy place places) columns r count memory area₀ q)
-    × (block .0 < 2 ^ 64) × (block .0 ≡ placeBy (block₀ .0) blocks q) × (p < 2 ^ 32) × (p ≡ placeBy place places q)
+    × (block .0 < 2 ^ 64) × (block .0 ≡ placeBy (block₀ .0) blocks q) × (p < 2 ^ WORD) × (p ≡ placeBy place places q)
 
 abbrev μ-loop : tie.MeasureT-loop
 μ-loop area₀ blocks memory columns place places drives count r q₀ block₀ p₀ area q block p = drives - q
@@ -78,7 +79,7 @@ loop-again c =
           (l .inv .1) (l .inv .3) (ap (λ (k : ℕ). k % x .drives) (l .inv .3) ∙ s .pre .1 .0 (l .q) (turn .loop-test .taken)) (l .inv .5),
       xor-lt 64 (l .block .0) (two .flip2 .result) (l .inv .2) (omega (arith, two .flip2 .ok)),
       ap (bitXor (l .block .0)) (two .flip2 .ensures) ∙ ap (λ (n : ℕ). bitXor n (flips (x .blocks .now) (l .q))) (l .inv .3) ∙ place-next (x .first .0) (x .blocks .now) (l .q),
-      xor-lt 32 (l .p) (one .flip .result) (l .inv .4) (omega (arith, one .flip .ok)),
+      xor-lt WORD (l .p) (one .flip .result) (l .inv .4) (omega (arith, one .flip .ok)),
       ap (bitXor (l .p)) (one .flip .ensures) ∙ ap (λ (n : ℕ). bitXor n (flips (x .places .now) (l .q))) (l .inv .5) ∙ place-next (x .place) (x .places .now) (l .q),
     )
 

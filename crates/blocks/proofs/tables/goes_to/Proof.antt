@@ -4,6 +4,7 @@ use Prim.Native.Nat.{ℕ}
 use native.Mathlib.Omega.{arith}
 use lib.Bits.{bitXor, xor-lt}
 use Rattle.algebra.specs.Matrix.{target}
+use Rattle.algebra.specs.Vector.{WORD}
 use Rattle.blocks.proofs.Sizes.{records-fit}
 use borrow.Author.Needs.{needs}
 use Rattle.blocks.proofs.tables.goes_to.Statement.{statement}
@@ -19,7 +20,7 @@ apply-requires : tie.Need-apply-requires
 apply-requires c κs = search needs
 
 cast-t9 : tie.Need-cast-t9
-cast-t9 c = omega (arith, xor-lt 32 (c .before .apply .result) (c .before .before .before .before .before .before .args .t .complement) (omega (arith, c .before .apply .ok)) (omega (arith, c .struct-known3 .given)))
+cast-t9 c = omega (arith, xor-lt WORD (c .before .apply .result) (c .before .before .before .before .before .before .args .t .complement) (omega (arith, c .before .apply .ok)) (omega (arith, c .struct-known3 .given)))
 
 returns : tie.Need-returns
 unfolding target

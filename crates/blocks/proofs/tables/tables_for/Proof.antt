@@ -11,7 +11,7 @@ cast-m : tie.Need-cast-m
 cast-m c = search needs
 
 inverse-columns-requires : tie.Need-inverse-columns-requires
-inverse-columns-requires c κs = let s = c .before .before .before in (search needs, low-singular (s .args .g) (s .args .t3) (s .args .complement) (s .pre))
+inverse-columns-requires c κs = let s = c .before .before .before in (search needs, low-singular (s .args .g) (s .args .t4) (s .args .complement) (s .pre))
 
 block-columns-requires : tie.Need-block-columns-requires
 block-columns-requires c κs = search needs
@@ -19,7 +19,7 @@ block-columns-requires c κs = search needs
 returns : tie.Need-returns
 returns c =
     let s = c .before .before .before .before .before .before in
-    tables-made (s .args .g) (s .args .t3) (s .args .complement) (s .pre) (s .args .pass) (c .before .before .inverse-columns .result) (c .block-columns .result) (c .before .before .inverse-columns .ensures) (c .block-columns .ensures)
+    tables-made (s .args .g) (s .args .t4) (s .args .complement) (s .pre) (s .args .pace) (s .args .pass) (c .before .before .inverse-columns .result) (c .block-columns .result) (c .before .before .inverse-columns .ensures) (c .block-columns .ensures)
 
 pub tables-for-spec : {M : Type 1} → statement M
 tables-for-spec =

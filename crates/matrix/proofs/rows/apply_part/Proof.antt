@@ -5,6 +5,7 @@ use native.Mathlib.Omega.{arith}
 use lib.Bits.{bitAnd}
 use lib.ListN.{drop, getD, take}
 use borrow.Author.Needs.{needs}
+use Rattle.algebra.specs.Vector.{WORD}
 use Rattle.algebra.specs.Matrix.{apply}
 use Rattle.algebra.proofs.Digits.{parity-lt}
 use Rattle.algebra.proofs.Loops.{apply-start, apply-tight, part-turn}
@@ -29,7 +30,7 @@ sub-i-2 c = search needs
 mul-r : tie.Need-mul-r Inv-loop μ-loop
 mul-r c =
     let a = c .before .before .args in
-    omega (arith, apply-tight 31 (drop (a .from) (a .rows .now)) (a .to - a .from) (c .before .loop .i) (a .x) (omega arith))
+    omega (arith, apply-tight (WORD - 1) (drop (a .from) (a .rows .now)) (a .to - a .from) (c .before .loop .i) (a .x) (omega arith))
 
 add-parity : tie.Need-add-parity Inv-loop μ-loop
 add-parity c = search needs
@@ -49,7 +50,7 @@ add-r c =
     let i = c .before .before .before .loop .i in
     omega (
       arith,
-      apply-tight 31 (drop (a .from) (a .rows .now)) (a .to - a .from) i (a .x) (omega arith),
+      apply-tight (WORD - 1) (drop (a .from) (a .rows .now)) (a .to - a .from) i (a .x) (omega arith),
       parity-lt (bitAnd (getD (a .rows .now) (a .from + (i - 1)) 0) (a .x)),
     )
 

@@ -5,6 +5,7 @@ use native.Mathlib.Omega.{arith}
 use lib.ListN.{length}
 use Rattle.bank.specs.Limits.{PASSES, ROWS}
 use Rattle.mover.proofs.Asked.{run-done, run-number, run-refused, run-steps-ready, run-total}
+use Rattle.moving.specs.Call.{lent}
 use Rattle.moving.specs.Step.{buffersOf}
 use borrow.Author.Needs.{needs}
 use Rattle.mover.proofs.run.run.Statement.{statement}
@@ -21,10 +22,10 @@ kept-requires c κs = search needs
 
 returns : tie.Need-returns
 returns c =
-    let s = c .before .before .before .before .before .before .before in
+    let s = c .before .before .before .before .before .before in
     let k = c .before .before .ready-number in
-    let is = k .ensures ∙ run-number (s .args .plan) (s .args .state) (s .args .allowance) (buffersOf (s .args .area0 .now) (s .args .area1 .now) (s .args .memory .now)) in
-    run-refused (s .args .plan) (s .args .state) (s .args .allowance) (buffersOf (s .args .area0 .now) (s .args .area1 .now) (s .args .memory .now)) (k .result) (c .kept .result) is (λ e. c .before .if1 .taken (is ∙ e)) (c .kept .ensures)
+    let is = k .ensures ∙ run-number (s .args .plan) (lent (s .args .state) (s .args .area0 .now) (s .args .area1 .now) (s .args .memory .now)) (s .args .allowance) in
+    run-refused (s .args .plan) (lent (s .args .state) (s .args .area0 .now) (s .args .area1 .now) (s .args .memory .now)) (s .args .allowance) (k .result) (c .kept .result) is (λ e. c .before .if1 .taken (is ∙ e)) (c .kept .ensures)
 
 total-steps-requires : tie.Need-total-steps-requires
 total-steps-requires c κs = search needs
@@ -32,8 +33,8 @@ total-steps-requires c κs = search needs
 sub-left : tie.Need-sub-left
 sub-left c =
     let s = c .before .before .before .before .before .before .before .before in
-    let z = sym (c .before .before .before .ready-number .ensures ∙ run-number (s .args .plan) (s .args .state) (s .args .allowance) (buffersOf (s .args .area0 .now) (s .args .area1 .now) (s .args .memory .now))) ∙ c .before .before .if1 .left in
-    omega (arith, c .before .total-steps .ensures, run-total (s .args .plan) (s .args .state) (s .args .allowance) (buffersOf (s .args .area0 .now) (s .args .area1 .now) (s .args .memory .now)) z)
+    let z = sym (c .before .before .before .before .ready-number .ensures ∙ run-number (s .args .plan) (lent (s .args .state) (s .args .area0 .now) (s .args .area1 .now) (s .args .memory .now)) (s .args .allowance)) ∙ c .before .before .before .if1 .left in
+    omega (arith, c .before .total-steps .ensures, run-total (s .args .plan) (lent (s .args .state) (s .args .area0 .now) (s .args .area1 .now) (s .args .memory .now)) (s .args .allowance) z)
 
 least-requires : tie.Need-least-requires
 least-requires c κs = search needs
@@ -41,9 +42,9 @@ least-requires c κs = search needs
 run-steps-requires : tie.Need-run-steps-requires
 run-steps-requires c κs =
     let s = c .before .before .before .before .before .before .before .before .before .before .before .before in
-    let z = sym (c .before .before .before .before .before .before .before .ready-number .ensures ∙ run-number (s .args .plan) (s .args .state) (s .args .allowance) (buffersOf (s .args .area0 .now) (s .args .area1 .now) (s .args .memory .now))) ∙ c .before .before .before .before .before .before .if1 .left in
-    run-steps-ready (s .args .plan) (s .args .state) (s .args .allowance) (buffersOf (s .args .area0 .now) (s .args .area1 .now) (s .args .memory .now)) (rows-long s) z (c .before .before .before .least .result)
-    (omega (arith, c .before .before .before .least .ensures, c .before .before .before .before .before .total-steps .ensures, run-total (s .args .plan) (s .args .state) (s .args .allowance) (buffersOf (s .args .area0 .now) (s .args .area1 .now) (s .args .memory .now)) z))
+    let z = sym (c .before .before .before .before .before .before .before .before .ready-number .ensures ∙ run-number (s .args .plan) (lent (s .args .state) (s .args .area0 .now) (s .args .area1 .now) (s .args .memory .now)) (s .args .allowance)) ∙ c .before .before .before .before .before .before .before .if1 .left in
+    run-steps-ready (s .args .plan) (lent (s .args .state) (s .args .area0 .now) (s .args .area1 .now) (s .args .memory .now)) (s .args .allowance) (rows-long s) z (c .before .before .before .least .result)
+    (omega (arith, c .before .before .before .least .ensures, c .before .before .before .before .before .total-steps .ensures, run-total (s .args .plan) (lent (s .args .state) (s .args .area0 .now) (s .args .area1 .now) (s .args .memory .now)) (s .args .allowance) z))
 
 advanced-requires : tie.Need-advanced-requires
 advanced-requires c κs = search needs
@@ -60,13 +61,13 @@ same-length-3 c = search needs
 returns-2 : tie.Need-returns-2
 returns-2 c =
     let s = c .before .before .before .before .before .before .before .before .before .before .before .before .before .before .before .before .before .before .before .before in
-    let k = c .before .before .before .before .before .before .before .before .before .before .before .before .before .before .before .ready-number in
-    let is = k .ensures ∙ run-number (s .args .plan) (s .args .state) (s .args .allowance) (buffersOf (s .args .area0 .now) (s .args .area1 .now) (s .args .memory .now)) in
-    let z = sym is ∙ c .before .before .before .before .before .before .before .before .before .before .before .before .before .before .if1 .left in
+    let k = c .before .before .before .before .before .before .before .before .before .before .before .before .before .before .before .before .ready-number in
+    let is = k .ensures ∙ run-number (s .args .plan) (lent (s .args .state) (s .args .area0 .now) (s .args .area1 .now) (s .args .memory .now)) (s .args .allowance) in
+    let z = sym is ∙ c .before .before .before .before .before .before .before .before .before .before .before .before .before .before .before .if1 .left in
     let n = c .before .before .before .before .before .before .before .before .before .before .before .least in
     let w = c .before .before .before .before .before .before .before .run-steps in
-    run-done (s .args .plan) (s .args .state) (s .args .allowance) (buffersOf (s .args .area0 .now) (s .args .area1 .now) (s .args .memory .now)) (k .result) (n .result) (c .advanced .result) (buffersOf (w .last .1 .1 .1 .0) (w .last .1 .1 .1 .1 .0) (w .last .1 .1 .1 .1 .1 .0)) is z
-    (n .ensures ∙ ap (λ (n : ℕ). min (s .args .allowance) (n - s .args .state .next .0)) (c .before .before .before .before .before .before .before .before .before .before .before .before .before .total-steps .ensures ∙ run-total (s .args .plan) (s .args .state) (s .args .allowance) (buffersOf (s .args .area0 .now) (s .args .area1 .now) (s .args .memory .now)) z .0)) (c .advanced .ensures) (w .ensures)
+    run-done (s .args .plan) (lent (s .args .state) (s .args .area0 .now) (s .args .area1 .now) (s .args .memory .now)) (s .args .allowance) (k .result) (n .result) (c .advanced .result) (buffersOf (w .last .1 .1 .1 .0) (w .last .1 .1 .1 .1 .0) (w .last .1 .1 .1 .1 .1 .0)) is z
+    (n .ensures ∙ ap (λ (n : ℕ). min (s .args .allowance) (n - s .args .state .next .0)) (c .before .before .before .before .before .before .before .before .before .before .before .before .before .total-steps .ensures ∙ run-total (s .args .plan) (lent (s .args .state) (s .args .area0 .now) (s .args .area1 .now) (s .args .memory .now)) (s .args .allowance) z .0)) (c .advanced .ensures) (w .ensures)
 
 pub run-spec : {M : Type 1} → statement M
 run-spec =

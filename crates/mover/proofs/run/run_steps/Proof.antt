@@ -8,7 +8,8 @@ use Rattle.moving.specs.Step.{Fits, buffersOf}
 use Rattle.moving.specs.Call.{movesFrom}
 use Rattle.planning.specs.Pass.{passSteps, total}
 use Rattle.planning.specs.Stored.{routeOf}
-use Rattle.blocks.proofs.Plans.{steps-alone, from-none, pass-turn, plan-allowed, plan-moves, plan-total, quotient-in, steps-pos}
+use Rattle.blocks.proofs.Plans.{from-none, pass-turn, plan-allowed, plan-moves, plan-total, quotient-in, steps-pos}
+use Rattle.blocks.specs.declared.turns.Pace.{Pace}
 use Rattle.mover.proofs.run.run_steps.Statement.{statement}
 use Rattle.mover.proofs.run.run_steps.Tie as tie
 
@@ -24,25 +25,25 @@ abbrev start : tie.In-loop Inv-loop μ-loop → tie.Start Inv-loop μ-loop
 start c = c .before .before .before .before .before .before
 
 -- the steps of a pass, and that there are some
-each-is : (c : tie.In-loop Inv-loop μ-loop) → c .before .before .pass-steps .result ≡ passSteps (routeOf (start c .args .plan))
-each-is c = c .before .before .pass-steps .ensures ∙ steps-alone (start c .args .plan)
+each-is : (c : tie.In-loop Inv-loop μ-loop) → c .before .before .pace-of .result .pass ≡ passSteps (routeOf (start c .args .plan))
+each-is c = ap (λ (p : Pace). p .pass) (c .before .before .pace-of .ensures)
 
-some : (c : tie.In-loop Inv-loop μ-loop) → 0 < c .before .before .pass-steps .result
+some : (c : tie.In-loop Inv-loop μ-loop) → 0 < c .before .before .pace-of .result .pass
 some c = subst (λ (n : ℕ). 0 < n) (sym (each-is c)) (steps-pos (start c .args .plan) (start c .pre .runs))
 
 -- the step is one of the plan's, and so is its pass
 here : (c : tie.In-loop Inv-loop μ-loop) → start c .args .first .0 + c .before .loop .done < total (routeOf (start c .args .plan))
 here c = omega (arith, start c .pre .within, c .loop-test .taken)
 
-pass-here : (c : tie.In-loop Inv-loop μ-loop) → (start c .args .first .0 + c .before .loop .done) / c .before .before .pass-steps .result < start c .args .plan .count
-pass-here c = quotient-in (start c .args .plan) (start c .pre .runs) (start c .args .first .0 + c .before .loop .done) (c .before .before .pass-steps .result) (each-is c) (here c)
+pass-here : (c : tie.In-loop Inv-loop μ-loop) → (start c .args .first .0 + c .before .loop .done) / c .before .before .pace-of .result .pass < start c .args .plan .count
+pass-here c = quotient-in (start c .args .plan) (start c .pre .runs) (start c .args .first .0 + c .before .loop .done) (c .before .before .pace-of .result .pass) (each-is c) (here c)
 
 -- what is left of the pass
-left : (c : tie.In-loop Inv-loop μ-loop) → (start c .args .first .0 + c .before .loop .done) % c .before .before .pass-steps .result < c .before .before .pass-steps .result
+left : (c : tie.In-loop Inv-loop μ-loop) → (start c .args .first .0 + c .before .loop .done) % c .before .before .pace-of .result .pass < c .before .before .pace-of .result .pass
 left c = mod-lt (start c .args .first .0 + c .before .loop .done) (some c)
 
-pass-steps-requires : tie.Need-pass-steps-requires Inv-loop μ-loop
-pass-steps-requires c κs = plan-allowed (c .before .before .before .args .plan) (c .before .before .before .pre .runs)
+pace-of-requires : tie.Need-pace-of-requires Inv-loop μ-loop
+pace-of-requires c κs = plan-allowed (c .before .before .before .args .plan) (c .before .before .before .pre .runs)
 
 loop-holds : tie.Need-loop-holds Inv-loop μ-loop
 loop-holds c = let s = c .before .before .before .before in (zero-le, refl, refl, refl, from-none (routeOf (s .args .plan)) (s .args .first .0) (buffersOf (s .args .area0 .now) (s .args .area1 .now) (s .args .memory .now)))
@@ -79,7 +80,7 @@ run-pass-requires c κs =
       area1-long = l .inv .2 ∙ s .pre .fitting .area1-long;
       memory-long = l .inv .3 ∙ s .pre .fitting .memory-long;
     } in (
-      rw (c .before .before .before .tables-of .ensures) (plan-moves (s .args .plan) (s .pre .runs) ((s .args .first .0 + l .done) / c .before .before .before .before .before .before .before .before .pass-steps .result) (pass-here turn) (buffersOf (l .area0) (l .area1) (l .memory)) f),
+      rw (c .before .before .before .tables-of .ensures) (plan-moves (s .args .plan) (s .pre .runs) ((s .args .first .0 + l .done) / c .before .before .before .before .before .before .before .before .pace-of .result .pass) (pass-here turn) (buffersOf (l .area0) (l .area1) (l .memory)) f),
       omega (arith, c .before .before .before .before .least .ensures, s .pre .within, plan-total (s .args .plan) (s .pre .runs), turn .loop-test .taken),
     )
 
@@ -101,7 +102,7 @@ loop-again c =
       w .kept .1 .1 .1 .1 .0 ∙ l .inv .2,
       w .kept .1 .1 .1 .1 .1 .0 ∙ l .inv .3,
       w .ensures
-          ∙ pass-turn (s .args .plan) (s .pre .runs) (s .args .first .0) (l .done) (c .before .before .before .before .before .before .before .before .before .before .before .least .result) ((s .args .first .0 + l .done) / c .before .before .before .before .before .before .before .before .before .before .before .before .before .before .before .pass-steps .result) (c .before .before .before .before .before .before .before .before .before .before .tables-of .result) (buffersOf (s .args .area0 .now) (s .args .area1 .now) (s .args .memory .now)) (buffersOf (l .area0) (l .area1) (l .memory))
+          ∙ pass-turn (s .args .plan) (s .pre .runs) (s .args .first .0) (l .done) (c .before .before .before .before .before .before .before .before .before .before .before .least .result) ((s .args .first .0 + l .done) / c .before .before .before .before .before .before .before .before .before .before .before .before .before .before .before .pace-of .result .pass) (c .before .before .before .before .before .before .before .before .before .before .tables-of .result) (buffersOf (s .args .area0 .now) (s .args .area1 .now) (s .args .memory .now)) (buffersOf (l .area0) (l .area1) (l .memory))
           (pass-here turn) (c .before .before .before .before .before .before .before .before .before .before .tables-of .ensures) (ap (λ (n : ℕ). (s .args .first .0 + l .done) / n) e)
           (subst (λ (n : ℕ). (s .args .first .0 + l .done) % n + c .before .before .before .before .before .before .before .before .before .before .before .least .result ≤ n) e (omega (arith, c .before .before .before .before .before .before .before .before .before .before .before .least .ensures, left turn))) (l .inv .4),
     )
@@ -124,7 +125,7 @@ run-steps-spec =
     (tie.spec
     Inv-loop
     μ-loop
-    pass-steps-requires
+    pace-of-requires
     loop-holds
     add-s
     sub-least

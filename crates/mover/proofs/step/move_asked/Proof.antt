@@ -2,7 +2,7 @@
 use mathlib.Core.Path.{ap, subst, sym, _∙_}
 use Prim.Native.Nat.{ℕ, _<_}
 use native.Mathlib.Omega.{arith}
-use Rattle.blocks.proofs.Plans.{pass-alone, move-same, pass-in, plan-allowed, plan-moves}
+use Rattle.blocks.proofs.Plans.{move-same, pass-in, plan-allowed, plan-moves}
 use Rattle.blocks.specs.Moving.{moveBy}
 use Rattle.moving.specs.Step.{buffersOf}
 use Rattle.blocks.specs.declared.tables.Tables.{Tables}
@@ -16,14 +16,14 @@ pass-of-requires c κs = let s = c .before .before .before in plan-allowed (s .a
 tables-of-requires : tie.Need-tables-of-requires
 tables-of-requires c κs =
     let s = c .before .before .before .before in
-    (s .pre .runs, rw (c .pass-of .ensures, pass-alone (s .args .plan) (s .args .asked .0)) (pass-in (s .args .plan) (s .pre .runs) (s .args .asked .0) (omega (arith, s .pre .within))))
+    (s .pre .runs, rw (c .pass-of .ensures) (pass-in (s .args .plan) (s .pre .runs) (s .args .asked .0) (omega (arith, s .pre .within))))
 
 move-step-requires : tie.Need-move-step-requires
 move-step-requires c κs =
     let s = c .before .before .before .before .before .before .before .before in
     let p = c .before .before .before .before .pass-of in
     let h : p .result < s .args .plan .count =
-    subst (λ (n : ℕ). n < s .args .plan .count) (sym (p .ensures ∙ pass-alone (s .args .plan) (s .args .asked .0))) (pass-in (s .args .plan) (s .pre .runs) (s .args .asked .0) (omega (arith, s .pre .within))) in
+    subst (λ (n : ℕ). n < s .args .plan .count) (sym (p .ensures)) (pass-in (s .args .plan) (s .pre .runs) (s .args .asked .0) (omega (arith, s .pre .within))) in
     rw (c .before .before .before .tables-of .ensures) (plan-moves (s .args .plan) (s .pre .runs) (p .result) h (buffersOf (s .args .area0 .now) (s .args .area1 .now) (s .args .memory .now)) (s .pre .fitting))
 
 same-length : tie.Need-same-length
@@ -39,12 +39,11 @@ returns : tie.Need-returns
 returns c =
     let s = c .before .before .before .before .before .before .before .before .before .before .before .before .before .before .before in
     let p = c .before .before .before .before .before .before .before .before .before .before .before .pass-of in
-    let is = p .ensures ∙ pass-alone (s .args .plan) (s .args .asked .0) in
     let h : p .result < s .args .plan .count =
-    subst (λ (n : ℕ). n < s .args .plan .count) (sym is) (pass-in (s .args .plan) (s .pre .runs) (s .args .asked .0) (omega (arith, s .pre .within))) in
+    subst (λ (n : ℕ). n < s .args .plan .count) (sym (p .ensures)) (pass-in (s .args .plan) (s .pre .runs) (s .args .asked .0) (omega (arith, s .pre .within))) in
     c .before .before .before .before .before .before .move-step .ensures
     ∙ ap (λ (t : Tables). moveBy t (s .args .asked .0) (buffersOf (s .args .area0 .now) (s .args .area1 .now) (s .args .memory .now))) (c .before .before .before .before .before .before .before .before .before .before .tables-of .ensures)
-    ∙ move-same (s .args .plan) (s .pre .runs) (p .result) h (s .args .asked .0) (buffersOf (s .args .area0 .now) (s .args .area1 .now) (s .args .memory .now)) (sym is)
+    ∙ move-same (s .args .plan) (s .pre .runs) (p .result) h (s .args .asked .0) (buffersOf (s .args .area0 .now) (s .args .area1 .now) (s .args .memory .now)) (sym (p .ensures))
 
 pub move-asked-spec : {M : Type 1} → statement M
 move-asked-spec =

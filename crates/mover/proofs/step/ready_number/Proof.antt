@@ -15,7 +15,7 @@ returns c = rw (sym (c .before .can-run .ensures) ∙ not-true (c .before .can-r
 lengths-fit-requires : tie.Need-lengths-fit-requires
 lengths-fit-requires c κs =
     let s = c .before .before in
-    sound-allowed (s .args .plan) (can-run→sound (s .args .plan) (s .args .next .0) (sym (c .before .can-run .ensures) ∙ not-false (c .before .can-run .result) (c .if1 .left)))
+    sound-allowed (s .args .plan) (can-run→sound (s .args .plan) (s .args .state) (sym (c .before .can-run .ensures) ∙ not-false (c .before .can-run .result) (c .if1 .left)))
 
 returns-2 : tie.Need-returns-2
 returns-2 c =

@@ -18,7 +18,7 @@ ready-number-requires c κs = search needs
 returns : tie.Need-returns
 returns c =
     let s = c .before .before in
-    c .before .ready-number .ensures ∙ check-stops (canRun (s .args .plan) (s .args .next .0)) (lengthsFit (s .args .plan .geometry) (s .args .area0) (s .args .area1) (s .args .memory)) (turnNumber (total (routeOf (s .args .plan))) (s .args .next .0) (s .args .asked .0)) (λ e. c .if1 .taken (c .before .ready-number .ensures ∙ e))
+    c .before .ready-number .ensures ∙ check-stops (canRun (s .args .plan) (s .args .state)) (lengthsFit (s .args .plan .geometry) (s .args .area0) (s .args .area1) (s .args .memory)) (turnNumber (total (routeOf (s .args .plan))) (s .args .state .next .0) (s .args .asked .0)) (λ e. c .if1 .taken (c .before .ready-number .ensures ∙ e))
 
 total-steps-requires : tie.Need-total-steps-requires
 total-steps-requires c κs = search needs
@@ -28,10 +28,10 @@ turn-number-requires c κs = search needs
 
 returns-2 : tie.Need-returns-2
 returns-2 c =
-    let s = c .before .before .before .before in
-    let k = check-goes (canRun (s .args .plan) (s .args .next .0)) (lengthsFit (s .args .plan .geometry) (s .args .area0) (s .args .area1) (s .args .memory)) (turnNumber (total (routeOf (s .args .plan))) (s .args .next .0) (s .args .asked .0)) (sym (c .before .before .before .ready-number .ensures) ∙ c .before .before .if1 .left) in
+    let s = c .before .before .before .before .before in
+    let k = check-goes (canRun (s .args .plan) (s .args .state)) (lengthsFit (s .args .plan .geometry) (s .args .area0) (s .args .area1) (s .args .memory)) (turnNumber (total (routeOf (s .args .plan))) (s .args .state .next .0) (s .args .asked .0)) (sym (c .before .before .before .before .ready-number .ensures) ∙ c .before .before .before .if1 .left) in
     c .turn-number .ensures
-    ∙ ap (λ (n : ℕ). turnNumber n (s .args .next .0) (s .args .asked .0)) (c .before .total-steps .ensures ∙ total-is (s .args .plan) (can-run→sound (s .args .plan) (s .args .next .0) (k .0)))
+    ∙ ap (λ (n : ℕ). turnNumber n (s .args .state .next .0) (s .args .asked .0)) (c .before .total-steps .ensures ∙ total-is (s .args .plan) (can-run→sound (s .args .plan) (s .args .state) (k .0)))
     ∙ k .1
 
 pub step-number-spec : {M : Type 1} → statement M

@@ -18,7 +18,7 @@ total-steps-requires c κs = search needs
 returns-2 : tie.Need-returns-2
 returns-2 c =
     let a = c .before .before .before .before .args in
-    can-run-next (a .plan) (a .next .0) (c .before .total-steps .result) (sym (c .before .before .before .is-sound .ensures) ∙ not-false _ (c .before .before .if1 .left)) (c .before .total-steps .ensures)
+    can-run-next (a .plan) (a .state) (c .before .total-steps .result) (sym (c .before .before .before .is-sound .ensures) ∙ not-false _ (c .before .before .if1 .left)) (c .before .total-steps .ensures)
 
 pub can-run-spec : {M : Type 1} → statement M
 can-run-spec =

@@ -1,9 +1,10 @@
--- `planner::marks::lowest_of` meets its contract: a set that is not empty has a lowest bit below 32. Assumes nothing.
+-- `planner::marks::lowest_of` meets its contract: a set that is not empty has a lowest bit inside the word. Assumes nothing.
 use mathlib.Core.Path.{_∙_, ap, subst, sym}
 use Prim.Native.Nat.{_<_, _^_, ℕ}
 use native.Mathlib.Nat.{le-refl}
 use native.Mathlib.Omega.{arith}
 use borrow.Author.Needs.{needs}
+use Rattle.algebra.specs.Vector.{WORD}
 use Rattle.planner.proofs.Masks.{lowest-nil, lowest-one, lowest-place}
 use Rattle.planner.proofs.marks.lowest_of.Statement.{statement}
 use Rattle.planner.proofs.marks.lowest_of.Tie as tie
@@ -14,7 +15,7 @@ lowest-requires c κs = search needs
 power-requires : tie.Need-power-requires
 power-requires c κs =
     let set = c .before .before .args .set in
-    subst (λ (k : ℕ). k < 32) (sym (c .lowest .ensures)) (lowest-place 32 set (omega (arith, c .before .if1 .left)) (c .before .before .fits .set .fits) (le-refl 32))
+    subst (λ (k : ℕ). k < WORD) (sym (c .lowest .ensures)) (lowest-place WORD set (omega (arith, c .before .if1 .left)) (c .before .before .fits .set .fits) (le-refl WORD))
 
 returns : tie.Need-returns
 returns c = lowest-nil (c .before .args .set) (c .if1 .taken)

@@ -9,7 +9,7 @@ use borrow.Author.Needs.{elem-fits, needs}
 use Rattle.bank.specs.Limits.{ROWS}
 use Rattle.algebra.specs.Elimination.{built}
 use Rattle.algebra.specs.Matrix.{marked}
-use Rattle.algebra.specs.Vector.{times}
+use Rattle.algebra.specs.Vector.{WORD, times}
 use Rattle.algebra.proofs.Built.{built-count, built-next}
 use Rattle.matrix.specs.Echelon.{echelonOf}
 use Rattle.planner.specs.Marks.{maskOf}
@@ -72,9 +72,9 @@ loop-again c =
     let s = c .before .before .before .before .before .before .before in
     let l = c .before .before .before .before .before .loop in
     let cols = s .args .t1 in
-    let fits : (i : ℕ) → getD cols i 0 < 2 ^ 32 = λ i. elem-fits w32 w32 cols (s .good .0 .0) i (s .good .0 .1 .1) tt .fits in
+    let fits : (i : ℕ) → getD cols i 0 < 2 ^ WORD = λ i. elem-fits w32 w32 cols (s .good .0 .0) i (s .good .0 .1 .1) tt .fits in
     let r = c .before .before .before .reduce in
-    let same = left-marked ROWS cols 32 (search needs) fits (l .j) (omega arith) (echelonOf (l .e)) (l .inv .1) (r .result .left) (r .ensures .0) (2 ^ l .j) in (
+    let same = left-marked ROWS cols WORD (search needs) fits (l .j) (omega arith) (echelonOf (l .e)) (l .inv .1) (r .result .left) (r .ensures .0) (2 ^ l .j) in (
       search needs,
       built-next ROWS cols (l .j) (echelonOf (l .e)) (echelonOf (c .grow .result)) (l .inv .1) (c .grow .ensures),
       ap₂ bitXor (l .inv .2) (c .before .times .ensures ∙ ap (times (r .result .left)) (c .before .before .power .ensures)) ∙ mask-next (marked cols) (l .j) (r .result .left) same,

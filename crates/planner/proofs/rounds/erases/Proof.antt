@@ -9,6 +9,7 @@ use borrow.Author.Needs.{needs}
 use Rattle.bank.specs.Limits.{ROWS}
 use Rattle.matrix.specs.Echelon.{echelonOf}
 use Rattle.algebra.proofs.Built.{built-count}
+use Rattle.algebra.specs.Vector.{WORD}
 use Rattle.planning.specs.Columns.{adding}
 use Rattle.planner.proofs.Lower.{delta-lower}
 use Rattle.planner.proofs.Erasing.{column-erased, erased, erased-all, erased-more, erased-none, phi-there}
@@ -98,7 +99,7 @@ loop-again c =
     (c .before .power .result) v (r .result .tag) (c .before .power .ensures) (phi-there (a .m) (a .n) (l .j) (a .cols .now) (omega arith) (search needs)) (r .ensures .1) in (
       search needs,
       search needs,
-      erased-more (a .n) (a .b) (a .m) cols (omega arith) (l .j) (bitXor (c .before .power .result) (r .result .tag * 2 ^ a .m % 2 ^ 32)) (l .e) (replicate (ROWS - a .n) 0) (omega arith) (l .inv .2) column,
+      erased-more (a .n) (a .b) (a .m) cols (omega arith) (l .j) (bitXor (c .before .power .result) (r .result .tag * 2 ^ a .m % 2 ^ WORD)) (l .e) (replicate (ROWS - a .n) 0) (omega arith) (l .inv .2) column,
     )
 
 returns : tie.Need-returns Inv-loop μ-loop

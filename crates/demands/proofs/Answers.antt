@@ -1,0 +1,95 @@
+-- Has each of our calls one outcome, and what does a refusal hand back and leave? Our mover has demand 1. Assumes nothing.
+use mathlib.Core.Path.{_≡_, refl, sym, ap, _∙_}
+use mathlib.Core.List.{List, [], _∷_}
+use Prim.Native.Nat.{ℕ, zero, suc, _+_, _-_, min}
+use native.Mathlib.Omega.{arith}
+use borrow.Author.Tests.{le-leb, lt-leb}
+use lib.ListN.{length}
+use Rattle.algebra.specs.Matrix.{source, target}
+use Rattle.bank.specs.Checks.{handed}
+use Rattle.order.specs.declared.Order.{Order}
+use Rattle.order.specs.declared.address.Source.{Source}
+use Rattle.order.specs.declared.address.Source.the-variants as answer
+use Rattle.order.specs.Order.{judgement, matrixOf}
+use Rattle.order.specs.Address.{Found, foundFor, meaningOf, questionNumber, targetOf}
+use Rattle.order.proofs.Asked.{source-given, source-refused}
+use Rattle.order.proofs.Main.{one-answer}
+use Rattle.planning.specs.declared.state.State.{State}
+use Rattle.planning.specs.Stored.{emptyPlan, planFor}
+use Rattle.plan.specs.Answer.{plannedFor}
+use Rattle.moving.specs.Call.{Moment, ran, stepped}
+use Rattle.moving.proofs.Calls.{nine-state, run-count, run-next, run-ready, step-done}
+use Rattle.mover.proofs.Asked.{total-is}
+use Rattle.text.specs.Listing.{listing, roomAfter, written}
+use Rattle.text.specs.Reading.{Reads, noOrder}
+use Rattle.text.specs.Reading.Reads.{no-first-line, outside, no-rest, singular, taken}
+use Rattle.text.proofs.Main.{one-reading, some-reading}
+use Rattle.demands.specs.Ours.{ours}
+use Rattle.demands.specs.Answers.{Answers, Refused}
+use Rattle.demands.proofs.Numbers.{ours-numbers}
+use Rattle.demands.proofs.Promised.{run-promised, run-refused, runAnswer, step-number, step-promised, step-refused, step-state, stepAnswer}
+
+-- with a number other than 0, the other thing is handed back
+refused-other : {A : Type 0} (k : ℕ) (result other : A) → Refused k → handed k result other ≡ other
+refused-other zero result other f = absurd (f refl)
+refused-other (suc k) result other f = refl
+
+-- asked backwards: an answer for each number
+some-source : (order : Order) (y : ℕ) → (a : Source) × (meaningOf a ≡ foundFor order y)
+some-source order y = by (questionNumber order y) refl
+  where
+    by : (k : ℕ) → questionNumber order y ≡ k → (a : Source) × (meaningOf a ≡ foundFor order y)
+    by zero e = (answer.From (record { 0 = source (order .geometry .n) (matrixOf order) (order .complement) y }), source-given order y _ e refl)
+    by (suc k) e = (answer.Refused (suc k), source-refused order y (suc k) (sym e) (λ z. omega arith))
+
+no-source : (order : Order) (y : ℕ) (a : Source) → meaningOf a ≡ foundFor order y → Refused (meaningOf a .number) → meaningOf a .sources ≡ []
+unfolding foundFor
+no-source order y a p f =
+    ap (λ (r : Found). r .sources) p
+    ∙ refused-other (questionNumber order y) (source (order .geometry .n) (matrixOf order) (order .complement) y ∷ []) [] (λ e. f (ap (λ (r : Found). r .number) p ∙ e))
+
+-- a text that is refused gives no order
+refused-empty : {text : List ℕ} {k : ℕ} {order : Order} → Reads text k order → Refused k → order ≡ noOrder
+refused-empty (no-first-line h) f = refl
+refused-empty (outside g b e) f = refl
+refused-empty (no-rest g b e h) f = refl
+refused-empty (singular g order b e w j) f = refl
+refused-empty (taken g order b e w j) f = absurd (f refl)
+
+pub ours-answers : Answers ours
+unfolding targetOf plannedFor written roomAfter
+ours-answers =
+    record {
+      numbered = ours-numbers;
+      target-refused = λ order x f. refused-other (questionNumber order x) (target (matrixOf order) (order .complement) x) 0 f;
+      source-refused = no-source;
+      source-some = some-source;
+      source-one = λ order y a b p q. one-answer a b (p ∙ sym q);
+      plan-number = λ order. refl;
+      plan-refused = λ order f. refused-other (judgement order) (planFor (order .geometry) (matrixOf order) (order .complement)) emptyPlan f;
+      step-done = λ plan m k r w p e.
+          ap (λ (s : State). s .next .0) (step-state plan m k r w p ∙ ap (λ (n : Moment). n .state) (step-done plan m k (sym (step-number plan m k r w p) ∙ e)));
+      step-again = λ plan m k r w p e. step-state plan m k r w p ∙ nine-state plan m k (sym (step-number plan m k r w p) ∙ e);
+      step-refused = λ plan m k r w p f.
+          let e = step-refused plan m k r w p f in (ap (λ (n : Moment). n .state) e, ap (λ (n : Moment). n .buffers) e);
+      step-some = λ plan m k. (stepAnswer plan m k, stepped plan m k .buffers, step-promised plan m k);
+      step-one = λ plan m k r r′ w w′ p q. (p .answered ∙ sym (q .answered), p .bytes ∙ sym (q .bytes));
+      run-done = λ plan m q r w p e.
+          let done = sym (p .number) ∙ e in (
+            p .count ∙ run-count plan m q done
+                ∙ ap (λ (all : ℕ). min q (all - m .state .next .0)) (sym (total-is plan (run-ready plan m done .sound-plan))),
+            ap (λ (s : State). s .next .0) (p .state′) ∙ run-next plan m q ∙ ap (λ (i : ℕ). m .state .next .0 + i) (sym (p .count)),
+          );
+      run-refused = λ plan m q r w p f.
+          let e = run-refused plan m q r w p f in (e .0, ap (λ (n : Moment). n .state) (e .1), ap (λ (n : Moment). n .buffers) (e .1));
+      run-some = λ plan m q. (runAnswer plan m q, ran plan m q .buffers, run-promised plan m q);
+      run-one = λ plan m q r r′ w w′ p k. (
+        λ i. record { number = (p .number ∙ sym (k .number)) i; count = (p .count ∙ sym (k .count)) i; state = (p .state′ ∙ sym (k .state′)) i },
+        p .bytes ∙ sym (k .bytes),
+      );
+      read-refused = λ text k order r f. refused-empty r f;
+      read-some = some-reading;
+      read-one = one-reading;
+      listing-whole = λ plan room h. let e = le-leb (length (listing plan)) (length room) h in (rw e, rw e);
+      listing-none = λ plan room h. let e = lt-leb (length (listing plan)) (length room) h in (rw e, rw e);
+    }

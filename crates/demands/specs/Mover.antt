@@ -1,0 +1,45 @@
+-- What is a mover? What its calls promise, and nothing else: each answer, and the bytes that are left. Assumes nothing.
+use mathlib.Core.List.{List}
+use Prim.Native.Nat.{ℕ}
+use Rattle.order.specs.declared.Order.{Order}
+use Rattle.order.specs.declared.address.Target.{Target}
+use Rattle.order.specs.declared.address.Source.{Source}
+use Rattle.planning.specs.declared.Plan.{Plan}
+use Rattle.planning.specs.declared.state.State.{State}
+use Rattle.plan.specs.declared.make.Planned.{Planned}
+use Rattle.moving.specs.Step.{Buffers}
+use Rattle.moving.specs.Call.{Moment}
+use Rattle.mover.specs.declared.step.Stepped.{Stepped}
+use Rattle.mover.specs.declared.run.Ran.{Ran}
+
+-- which answers a call for a step may give, at a moment and for the step asked, and which bytes it may leave
+abbrev pub StepRule : Type 1
+StepRule = Plan → Moment → ℕ → Stepped → Buffers → Type 0
+
+-- the same of a run, for its allowance
+abbrev pub RunRule : Type 1
+RunRule = Plan → Moment → ℕ → Ran → Buffers → Type 0
+
+-- a call that is promised by an equation is a function of what it is given; one that is promised by a meaning is a rule
+pub record Mover : Type 1 where
+  -- the number of an order; where it sends an address, and which answers it may give for one backwards
+  pub judges : Order → ℕ
+  pub sends : Order → ℕ → Target
+  pub finds : Order → ℕ → Source → Type 0
+  -- the number and the plan for an order; a plan's total, and the area where its result lies
+  pub plans : Order → Planned
+  pub total : Plan → ℕ
+  pub area : Plan → ℕ
+  -- the state at the start, a step, a run
+  pub fresh : State
+  pub step : StepRule
+  pub run : RunRule
+  -- which number and order a text may give
+  pub reads : List ℕ → ℕ → Order → Type 0
+  -- how many bytes of a plan's listing are written into a room, and what the room then holds
+  pub lists : Plan → List ℕ → ℕ
+  pub leaves : Plan → List ℕ → List ℕ
+
+-- where a line begins: the fresh state, and these bytes
+abbrev pub beginning : Mover → Buffers → Moment
+beginning M v = record { state = M .fresh; buffers = v }

@@ -1,0 +1,28 @@
+-- Which mover is ours? Each field is the definition that the call's contract cites. Assumes nothing.
+use mathlib.Core.Path.{_≡_}
+use Rattle.order.specs.Order.{judgement}
+use Rattle.order.specs.Address.{targetOf, meaningOf, foundFor}
+use Rattle.planning.specs.State.{freshState}
+use Rattle.plan.specs.Answer.{plannedFor}
+use Rattle.plan.specs.Total.{totalSteps, resultArea}
+use Rattle.mover.specs.Promise.{StepPromise, RunPromise}
+use Rattle.text.specs.Reading.{Reads}
+use Rattle.text.specs.Listing.{written, roomAfter}
+use Rattle.demands.specs.Mover.{Mover}
+
+abbrev pub ours : Mover
+ours =
+    record {
+      judges = judgement;
+      sends = targetOf;
+      finds = λ order y answer. meaningOf answer ≡ foundFor order y;
+      plans = plannedFor;
+      total = totalSteps;
+      area = resultArea;
+      fresh = freshState;
+      step = StepPromise;
+      run = RunPromise;
+      reads = Reads;
+      lists = written;
+      leaves = roomAfter;
+    }

@@ -1,0 +1,228 @@
+-- Which movers are of no use, and which demand does each of them break? Each is ours but for what its name says. Assumes nothing.
+use mathlib.Core.Path.{_≡_}
+use mathlib.Core.Bool.{true, not, cond}
+use mathlib.Core.List.{List}
+use Prim.Native.Nat.{ℕ, _+_, _-_, _^_}
+use lib.Dec.{eqb}
+use lib.ListN.{getD}
+use Rattle.algebra.specs.Search.{some}
+use Rattle.bank.specs.Checks.{handed}
+use Rattle.order.specs.declared.Order.{Order}
+use Rattle.order.specs.declared.address.Target.{Target}
+use Rattle.order.specs.declared.address.Source.the-variants.{Refused as NoSource}
+use Rattle.order.specs.Order.{judgement}
+use Rattle.order.specs.Address.{questionNumber, targetOf}
+use Rattle.planning.specs.declared.Plan.{Plan}
+use Rattle.planning.specs.declared.state.State.{State}
+use Rattle.planning.specs.State.{freshState}
+use Rattle.planning.specs.Stored.{emptyPlan, routeOf}
+use Rattle.plan.specs.Total.{totalSteps, resultArea}
+use Rattle.moving.specs.Bytes.{copied}
+use Rattle.moving.specs.Number.{passOf, loadOf, phaseOf}
+use Rattle.moving.specs.Step.{Buffers, areaOf, byPhase, moves, readFrom, withMemory}
+use Rattle.moving.specs.Call.{buffersBy}
+use Rattle.mover.specs.declared.step.Stepped.{Stepped}
+use Rattle.mover.specs.declared.step.Stepped.the-variants.{Refused}
+use Rattle.mover.specs.Promise.{StepPromise, RunPromise, numberOf}
+use Rattle.text.specs.Reading.{Reads, noOrder}
+use Rattle.text.specs.Listing.{written, roomAfter}
+use Rattle.demands.specs.Mover.{Mover, RunRule, StepRule}
+use Rattle.demands.specs.Ours.{ours}
+use Rattle.demands.specs.Answers.{Answers}
+use Rattle.demands.specs.Sends.{Sends}
+use Rattle.demands.specs.Delivers.{Delivers}
+
+-- ours with other answers on orders and addresses
+abbrev answering : (Order → ℕ) → (Order → ℕ → Target) → Mover
+answering judges sends =
+    record {
+      judges = judges;
+      sends = sends;
+      finds = ours .finds;
+      plans = ours .plans;
+      total = totalSteps;
+      area = resultArea;
+      fresh = freshState;
+      step = StepPromise;
+      run = RunPromise;
+      reads = Reads;
+      lists = written;
+      leaves = roomAfter;
+    }
+
+-- ours with other totals, areas, starts, steps and runs
+abbrev stepping : (Plan → ℕ) → (Plan → ℕ) → State → StepRule → RunRule → Mover
+stepping total area fresh step run =
+    record {
+      judges = judgement;
+      sends = targetOf;
+      finds = ours .finds;
+      plans = ours .plans;
+      total = total;
+      area = area;
+      fresh = fresh;
+      step = step;
+      run = run;
+      reads = Reads;
+      lists = written;
+      leaves = roomAfter;
+    }
+
+-- ours with other readings and listings
+abbrev writing : (List ℕ → ℕ → Order → Type 0) → (Plan → List ℕ → ℕ) → (Plan → List ℕ → List ℕ) → Mover
+writing reads lists leaves =
+    record {
+      judges = judgement;
+      sends = targetOf;
+      finds = ours .finds;
+      plans = ours .plans;
+      total = totalSteps;
+      area = resultArea;
+      fresh = freshState;
+      step = StepPromise;
+      run = RunPromise;
+      reads = reads;
+      lists = lists;
+      leaves = leaves;
+    }
+
+-- ---- the six of the rules
+
+-- it refuses everything
+abbrev pub refusesAll : Mover
+refusesAll =
+    record {
+      judges = λ order. 1;
+      sends = λ order x. record { number = 1; address = record { 0 = 0 } };
+      finds = λ order y a. a ≡ NoSource 1;
+      plans = λ order. record { number = 1; plan = emptyPlan };
+      total = totalSteps;
+      area = resultArea;
+      fresh = freshState;
+      step = λ plan m k r w. (r ≡ Refused 7 (m .state)) × (w ≡ m .buffers);
+      run = λ plan m q r w. (r ≡ record { number = 7; count = 0; state = m .state }) × (w ≡ m .buffers);
+      reads = λ text k order. (k ≡ 8) × (order ≡ noOrder);
+      lists = λ plan room. 0;
+      leaves = λ plan room. room;
+    }
+
+-- it sends every x to 0, or x to x
+abbrev pub toZero : Mover
+toZero = answering judgement (λ order x. record { number = questionNumber order x; address = record { 0 = 0 } })
+
+abbrev pub toItself : Mover
+toItself = answering judgement (λ order x. record { number = questionNumber order x; address = record { 0 = handed (questionNumber order x) x 0 } })
+
+-- it answers as ours does, and moves nothing
+abbrev idleStep : StepRule
+idleStep plan m k r w = (u : Buffers) × StepPromise plan m k r u × (w ≡ m .buffers)
+
+abbrev idleRun : RunRule
+idleRun plan m q r w = (u : Buffers) × RunPromise plan m q r u × (w ≡ m .buffers)
+
+abbrev pub movesNothing : Mover
+movesNothing = stepping totalSteps resultArea freshState idleStep idleRun
+
+-- it moves all at step 0
+abbrev eagerStep : StepRule
+eagerStep plan m k r w =
+    (u : Buffers) × StepPromise plan m k r u
+    × (w ≡ buffersBy (numberOf r) (cond (eqb k 0) (moves (routeOf plan) (totalSteps plan) (m .buffers)) (m .buffers)) (m .buffers))
+
+abbrev pub movesAll : Mover
+movesAll = stepping totalSteps resultArea freshState eagerStep RunPromise
+
+-- it invents totals
+abbrev pub inventsTotals : Mover
+inventsTotals = stepping (λ plan. totalSteps plan + 1) resultArea freshState StepPromise RunPromise
+
+-- ---- others that answer what they should, and do something else
+
+-- its steps move nothing; its runs are ours
+abbrev pub stepsMoveNothing : Mover
+stepsMoveNothing = stepping totalSteps resultArea freshState idleStep RunPromise
+
+-- it names the other area
+abbrev pub otherArea : Mover
+otherArea = stepping totalSteps (λ plan. 1 - resultArea plan) freshState StepPromise RunPromise
+
+-- it begins at step 1
+abbrev pub beginsAtOne : Mover
+beginsAtOne = stepping totalSteps resultArea (record { next = record { 0 = 1 } }) StepPromise RunPromise
+
+-- each of its reads takes the whole load
+abbrev loadRead : Plan → ℕ → Buffers → Buffers
+loadRead plan k v =
+    withMemory
+    (copied (λ q. true) (readFrom (plan .geometry) (loadOf (routeOf plan) k)) (plan .geometry .r) (areaOf (passOf (routeOf plan) k) v) (v .memory))
+    v
+
+abbrev loadStep : StepRule
+loadStep plan m k r w =
+    (u : Buffers) × StepPromise plan m k r u
+    × (w ≡ buffersBy (numberOf r) (byPhase (phaseOf (routeOf plan) k) (loadRead plan k (m .buffers)) u) (m .buffers))
+
+abbrev pub readsWholeLoad : Mover
+readsWholeLoad = stepping totalSteps resultArea freshState loadStep RunPromise
+
+-- ---- others that refuse what they should take
+
+-- it takes the identity alone, and calls every other matrix singular
+abbrev pub takesIdentityAlone : Mover
+takesIdentityAlone =
+    answering (λ order. handed (judgement order) (cond (some (λ i. not (eqb (getD (order .rows) i 0) (2 ^ i))) (order .geometry .n)) 3 0) (judgement order)) targetOf
+
+-- it refuses a repeat by 5
+abbrev onceStep : StepRule
+onceStep plan m k r w =
+    (s : Stepped) × (u : Buffers) × StepPromise plan m k s u
+    × (r ≡ cond (eqb (numberOf s) 9) (Refused 5 (m .state)) s) × (w ≡ cond (eqb (numberOf s) 9) (m .buffers) u)
+
+abbrev pub refusesRepeats : Mover
+refusesRepeats = stepping totalSteps resultArea freshState onceStep RunPromise
+
+-- it refuses every step, or every run, by 7
+abbrev pub refusesSteps : Mover
+refusesSteps = stepping totalSteps resultArea freshState (λ plan m k r w. (r ≡ Refused 7 (m .state)) × (w ≡ m .buffers)) RunPromise
+
+abbrev pub refusesRuns : Mover
+refusesRuns =
+    stepping totalSteps resultArea freshState StepPromise (λ plan m q r w. (r ≡ record { number = 7; count = 0; state = m .state }) × (w ≡ m .buffers))
+
+-- it reads no text, or lists no plan
+abbrev pub readsNothing : Mover
+readsNothing = writing (λ text k order. (k ≡ 8) × (order ≡ noOrder)) written roomAfter
+
+abbrev pub listsNothing : Mover
+listsNothing = writing Reads (λ plan room. 0) (λ plan room. room)
+
+-- ---- others that say too much, or too little
+
+-- its steps promise what can't be, or nothing
+abbrev pub promisesTooMuch : Mover
+promisesTooMuch = stepping totalSteps resultArea freshState (λ plan m k r w. ⊥) RunPromise
+
+abbrev pub promisesNothing : Mover
+promisesNothing = stepping totalSteps resultArea freshState (λ plan m k r w. Unit {0}) RunPromise
+
+-- ---- which demand each breaks
+
+pub record Broken : Type 0 where
+  pub refusesAll-fails : Sends refusesAll → ⊥
+  pub toZero-fails : Sends toZero → ⊥
+  pub toItself-fails : Sends toItself → ⊥
+  pub takesIdentityAlone-fails : Sends takesIdentityAlone → ⊥
+  pub movesNothing-fails : Delivers movesNothing → ⊥
+  pub movesAll-fails : Delivers movesAll → ⊥
+  pub inventsTotals-fails : Delivers inventsTotals → ⊥
+  pub stepsMoveNothing-fails : Delivers stepsMoveNothing → ⊥
+  pub otherArea-fails : Delivers otherArea → ⊥
+  pub beginsAtOne-fails : Delivers beginsAtOne → ⊥
+  pub readsWholeLoad-fails : Delivers readsWholeLoad → ⊥
+  pub refusesRepeats-fails : Delivers refusesRepeats → ⊥
+  pub refusesSteps-fails : Delivers refusesSteps → ⊥
+  pub refusesRuns-fails : Delivers refusesRuns → ⊥
+  pub promisesTooMuch-fails : Answers promisesTooMuch → ⊥
+  pub promisesNothing-fails : Answers promisesNothing → ⊥
+  pub listsNothing-fails : Answers listsNothing → ⊥
+  pub readsNothing-fails : Answers readsNothing → ⊥
