@@ -25,12 +25,12 @@ use Rattle.text.specs.Reading.{Reads, noOrder}
 use Rattle.text.specs.Reading.Reads.{no-first-line, outside, no-rest, singular, taken}
 use Rattle.text.proofs.Main.{one-reading, some-reading}
 use Rattle.demands.specs.Ours.{ours}
-use Rattle.demands.specs.Answers.{Answers, Refused}
+use Rattle.demands.specs.Answers.{Answers, Refusal}
 use Rattle.demands.proofs.Numbers.{ours-numbers}
 use Rattle.demands.proofs.Promised.{run-promised, run-refused, runAnswer, step-number, step-promised, step-refused, step-state, stepAnswer}
 
 -- with a number other than 0, the other thing is handed back
-refused-other : {A : Type 0} (k : ℕ) (result other : A) → Refused k → handed k result other ≡ other
+refused-other : {A : Type 0} (k : ℕ) (result other : A) → Refusal k → handed k result other ≡ other
 refused-other zero result other f = absurd (f refl)
 refused-other (suc k) result other f = refl
 
@@ -42,14 +42,14 @@ some-source order y = by (questionNumber order y) refl
     by zero e = (answer.From (record { 0 = source (order .geometry .n) (matrixOf order) (order .complement) y }), source-given order y _ e refl)
     by (suc k) e = (answer.Refused (suc k), source-refused order y (suc k) (sym e) (λ z. omega arith))
 
-no-source : (order : Order) (y : ℕ) (a : Source) → meaningOf a ≡ foundFor order y → Refused (meaningOf a .number) → meaningOf a .sources ≡ []
+no-source : (order : Order) (y : ℕ) (a : Source) → meaningOf a ≡ foundFor order y → Refusal (meaningOf a .number) → meaningOf a .sources ≡ []
 unfolding foundFor
 no-source order y a p f =
     ap (λ (r : Found). r .sources) p
     ∙ refused-other (questionNumber order y) (source (order .geometry .n) (matrixOf order) (order .complement) y ∷ []) [] (λ e. f (ap (λ (r : Found). r .number) p ∙ e))
 
 -- a text that is refused gives no order
-refused-empty : {text : List ℕ} {k : ℕ} {order : Order} → Reads text k order → Refused k → order ≡ noOrder
+refused-empty : {text : List ℕ} {k : ℕ} {order : Order} → Reads text k order → Refusal k → order ≡ noOrder
 refused-empty (no-first-line h) f = refl
 refused-empty (outside g b e) f = refl
 refused-empty (no-rest g b e h) f = refl

@@ -21,25 +21,25 @@ use Rattle.mover.specs.Promise.{RunPromise, numberOf, stateOf}
 use Rattle.demands.specs.Mover.{Mover}
 use Rattle.demands.specs.Ours.{ours}
 use Rattle.demands.specs.Answers.{Answers}
-use Rattle.demands.specs.Chain.{Called, Chain, strayed, then}
+use Rattle.demands.specs.Chain.{Called, Chain, strayed, between}
 use Rattle.demands.specs.Chain.Called.{asked, allowed}
 use Rattle.demands.specs.Chain.Chain.{none, step, run, strayStep, strayRun}
-use Rattle.demands.specs.Lines.{Lines, Stepwise, inTurn, taken}
+use Rattle.demands.specs.Lines.{Lines, Stepwise, inTurn, withoutRefused}
 use Rattle.demands.proofs.Promised.{given-back, run-moment, stepAnswer, step-moment, step-number, step-promised}
 
 -- ---- refused calls left out
 
 module _ (M : Mover) (answers : Answers M) where
   -- a step, or a run, of the line's own before a line whose refused calls are left out
-  step-out : (plan : Plan) (m end : Moment) (k : ℕ) (r : Stepped) (w : Buffers) (cs : List Called) → M .step plan m k r w → Chain M plan (then (stateOf r) w) cs end
+  step-out : (plan : Plan) (m end : Moment) (k : ℕ) (r : Stepped) (w : Buffers) (cs : List Called) → M .step plan m k r w → Chain M plan (between (stateOf r) w) cs end
       → Chain M plan m (cond (refuses (numberOf r)) cs (asked k r ∷ cs)) end
   step-out plan m end k r w cs p rest = by (refuses (numberOf r)) refl
     where
       by : (t : Bool) → refuses (numberOf r) ≡ t → Chain M plan m (cond t cs (asked k r ∷ cs)) end
-      by true e = let z = answers .step-refused plan m k r w p e in subst (λ (x : Moment). Chain M plan x cs end) (ap₂ then (z .0) (z .1)) rest
+      by true e = let z = answers .step-refused plan m k r w p e in subst (λ (x : Moment). Chain M plan x cs end) (ap₂ between (z .0) (z .1)) rest
       by false e = step k r p rest
 
-  run-out : (plan : Plan) (m end : Moment) (q : ℕ) (r : Ran) (w : Buffers) (cs : List Called) → M .run plan m q r w → Chain M plan (then (r .state) w) cs end
+  run-out : (plan : Plan) (m end : Moment) (q : ℕ) (r : Ran) (w : Buffers) (cs : List Called) → M .run plan m q r w → Chain M plan (between (r .state) w) cs end
       → Chain M plan m (cond (eqb (r .number) 0) (allowed q r ∷ cs) cs) end
   run-out plan m end q r w cs p rest = by (eqb (r .number) 0) refl
     where
@@ -47,19 +47,19 @@ module _ (M : Mover) (answers : Answers M) where
       by true e = run q r p rest
       by false e =
           let z = answers .run-refused plan m q r w p (eqb-false (r .number) 0 e) in
-          subst (λ (x : Moment). Chain M plan x cs end) (ap₂ then (z .1) (z .2)) rest
+          subst (λ (x : Moment). Chain M plan x cs end) (ap₂ between (z .1) (z .2)) rest
 
-  pub refused-out : {plan : Plan} {m end : Moment} {cs : List Called} → Chain M plan m cs end → Chain M plan m (taken cs) end
-  unfolding taken
+  pub refused-out : {plan : Plan} {m end : Moment} {cs : List Called} → Chain M plan m cs end → Chain M plan m (withoutRefused cs) end
+  unfolding withoutRefused
   refused-out none = none
-  refused-out {plan} {end = end} (step {m = m} {w = w} {cs = cs} k r p rest) = step-out plan m end k r w (taken cs) p (refused-out rest)
-  refused-out {plan} {end = end} (run {m = m} {w = w} {cs = cs} q r p rest) = run-out plan m end q r w (taken cs) p (refused-out rest)
+  refused-out {plan} {end = end} (step {m = m} {w = w} {cs = cs} k r p rest) = step-out plan m end k r w (withoutRefused cs) p (refused-out rest)
+  refused-out {plan} {end = end} (run {m = m} {w = w} {cs = cs} q r p rest) = run-out plan m end q r w (withoutRefused cs) p (refused-out rest)
   refused-out {plan} {end = end} (strayStep {m = m} {w = w} {cs = cs} stray k r p f rest) =
       let z = answers .step-refused (stray .plan) (strayed stray m) k r w p f in
-      subst (λ (x : Moment). Chain M plan x (taken cs) end) (given-back stray m w (ap₂ then (z .0) (z .1))) (refused-out rest)
+      subst (λ (x : Moment). Chain M plan x (withoutRefused cs) end) (given-back stray m w (ap₂ between (z .0) (z .1))) (refused-out rest)
   refused-out {plan} {end = end} (strayRun {m = m} {w = w} {cs = cs} stray q r p f rest) =
       let z = answers .run-refused (stray .plan) (strayed stray m) q r w p f in
-      subst (λ (x : Moment). Chain M plan x (taken cs) end) (given-back stray m w (ap₂ then (z .1) (z .2))) (refused-out rest)
+      subst (λ (x : Moment). Chain M plan x (withoutRefused cs) end) (given-back stray m w (ap₂ between (z .1) (z .2))) (refused-out rest)
 
 -- ---- two runs in a row
 
@@ -75,7 +75,7 @@ counts-add plan m q q′ =
     omega (arith, run-next plan m q, run-next plan (ran plan m q) q′, run-next plan m (q + q′), ap (λ (n : Moment). n .state .next .0) (run-again plan m q q′))
 
 module _ (plan : Plan) (m : Moment) (q q′ : ℕ) (r r′ s : Ran) (w w′ u : Buffers)
-    (p : RunPromise plan m q r w) (p′ : RunPromise plan (then (r .state) w) q′ r′ w′) (t : RunPromise plan m (q + q′) s u) where
+    (p : RunPromise plan m q r w) (p′ : RunPromise plan (between (r .state) w) q′ r′ w′) (t : RunPromise plan m (q + q′) s u) where
   second : RunPromise plan (ran plan m q) q′ r′ w′
   second = subst (λ (x : Moment). RunPromise plan x q′ r′ w′) (run-moment plan m q r w p) p′
 

@@ -24,7 +24,7 @@ use Rattle.text.specs.Reading.{Reads, Whole}
 use Rattle.text.specs.Reading.Reads.{no-first-line, outside, no-rest, singular, taken}
 use Rattle.text.proofs.Main.{one-reading, only-text, read-written}
 use Rattle.demands.specs.Ours.{ours}
-use Rattle.demands.specs.Numbers.{Asked, Begun, Numbers, Outside, Ready, RunNumbers, StepNumbers, TextNumbers, Unreadable}
+use Rattle.demands.specs.Numbers.{Asked, Inside, Numbers, Outside, Ready, RunNumbers, StepNumbers, TextNumbers, Unreadable}
 use Rattle.demands.proofs.Promised.{step-number}
 
 -- where the number given is due, and j is due only with it, j is given exactly when it is due
@@ -98,7 +98,7 @@ module _ (plan : Plan) (m : Moment) (k : ℕ) where
 module _ (text : List ℕ) where
   -- it is an order's, judged so
   abbrev Judged : ℕ → Type 0
-  Judged j = (g : Geometry) × (order : Order) × Begun text g × Whole text g order × (judgement order ≡ j)
+  Judged j = (g : Geometry) × (order : Order) × Inside text g × Whole text g order × (judgement order ≡ j)
 
   abbrev textDue : ℕ → Type 0
   textDue j =

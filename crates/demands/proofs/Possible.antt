@@ -30,7 +30,7 @@ use Rattle.moving.specs.Call.{Moment}
 use Rattle.mover.specs.declared.step.Stepped.{Stepped}
 use Rattle.mover.specs.Promise.{numberOf, stateOf}
 use Rattle.demands.specs.Mover.{Mover, beginning}
-use Rattle.demands.specs.Chain.{Called, Chain, newSteps, then}
+use Rattle.demands.specs.Chain.{Called, Chain, newSteps, between}
 use Rattle.demands.specs.Chain.Called.{asked, allowed, strayAsked, strayAllowed}
 use Rattle.demands.specs.Chain.Chain.{none, step, run, strayStep, strayRun}
 use Rattle.demands.specs.Numbers.{Ready, StepNumbers}
@@ -147,7 +147,7 @@ module _ (M : Mover) (answers : Answers M) (plan : Plan) (v : Buffers)
   asks-on number k j i numbered e on m here =
       let r = answers .step-some plan m k in
       let z = numbered m here (r .0) (answers .numbered .of-step plan m k (r .0) (r .1) (r .2)) in
-      let n = then (stateOf (r .0)) (r .1) in
+      let n = between (stateOf (r .0)) (r .1) in
       let a = on n (further here (asked k (r .0) ∷ []) n (step k (r .0) (r .2) none) i (ap (λ (s : ℕ). j + (cond (eqb s 0) 1 0 + 0)) z ∙ omega (arith, e))) in
       record {
         calls = asked k (r .0) ∷ a .calls;
@@ -179,7 +179,7 @@ module _ (M : Mover) (answers : Answers M) (plan : Plan) (v : Buffers)
   runs-all j m here =
       let r = answers .run-some plan m (M .total plan) in
       let at = lines (here .calls) m (here .chain) in
-      let n = then (r .0 .state) (r .1) in
+      let n = between (r .0 .state) (r .1) in
       let c = run (M .total plan) (r .0) (r .2) none in
       record {
         calls = allowed (M .total plan) (r .0) ∷ [];

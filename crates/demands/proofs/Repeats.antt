@@ -14,7 +14,7 @@ use Rattle.moving.proofs.Calls.{nine-means, nine-state, repeat-keeps, repeat-nu
 use Rattle.mover.specs.declared.step.Stepped.{Stepped}
 use Rattle.mover.specs.Promise.{StepPromise, numberOf, stateOf}
 use Rattle.demands.specs.Ours.{ours}
-use Rattle.demands.specs.Chain.{Called, Chain, strayed, then}
+use Rattle.demands.specs.Chain.{Called, Chain, strayed, between}
 use Rattle.demands.specs.Chain.Chain.{none, step, run, strayStep, strayRun}
 use Rattle.demands.specs.Repeats.{Repeats, quiet}
 use Rattle.demands.proofs.Promised.{given-back, run-refused, step-moment, step-number, step-refused}
@@ -28,16 +28,16 @@ module _ (plan : Plan) (m : Moment) (k : ℕ) (done : stepNumber plan m k ≡ 0)
   after = stepped plan m k
 
   -- a step asked there that isn't answered 0 is that step again, or refused; either way nothing changes
-  quiet-step : (j : ℕ) (r : Stepped) (w : Buffers) → StepPromise plan after j r w → (numberOf r ≡ 0 → ⊥) → then (stateOf r) w ≡ after
+  quiet-step : (j : ℕ) (r : Stepped) (w : Buffers) → StepPromise plan after j r w → (numberOf r ≡ 0 → ⊥) → between (stateOf r) w ≡ after
   quiet-step j r w p f = by (eqb (numberOf r) 9) refl
     where
-      by : (t : Bool) → eqb (numberOf r) 9 ≡ t → then (stateOf r) w ≡ after
+      by : (t : Bool) → eqb (numberOf r) 9 ≡ t → between (stateOf r) w ≡ after
       by false e = step-refused plan after j r w p (rw (ne-eqb (numberOf r) 0 f, e))
       by true e =
           let nine : stepNumber plan after j ≡ 9 = sym (step-number plan after j r w p) ∙ eqb-true (numberOf r) 9 e in
           let same : j ≡ k = omega (arith, nine-means plan after j nine .2, ap (λ (n : Moment). n .state .next .0) (step-done plan m k done), zero-means plan m k done .2) in
           step-moment plan after j r w p ∙ ap (stepped plan after) same
-          ∙ ap₂ then (nine-state plan after k (repeat-number plan m k done)) (repeat-keeps plan m k done)
+          ∙ ap₂ between (nine-state plan after k (repeat-number plan m k done)) (repeat-keeps plan m k done)
 
   -- so nothing changes over any quiet chain
   quiet-chain : {begin end : Moment} {cs : List Called} → Chain ours plan begin cs end → quiet cs ≡ true → begin ≡ after → end ≡ after

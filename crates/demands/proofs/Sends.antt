@@ -18,7 +18,7 @@ use Rattle.order.proofs.Asked.{number-none, number-order, number-ten}
 use Rattle.order.proofs.Judged.{formless, outside-limits, regular-none, singular-three}
 use Rattle.order.proofs.Main.{comes, sends, shared-target→three, three→shared-target}
 use Rattle.demands.specs.Ours.{ours}
-use Rattle.demands.specs.Answers.{Refused}
+use Rattle.demands.specs.Answers.{Refusal}
 use Rattle.demands.specs.Sends.{Formed, OnlySource, Sends, SharedTarget}
 use Rattle.demands.proofs.Numbers.{exactly}
 
@@ -87,7 +87,7 @@ module _ (order : Order) where
         go (inr f) s = absurd (subst orderDue (sym (number-order order x f) ∙ e) order-due)
 
     module _ (number : ℕ) (is : number ≡ questionNumber order x) where
-      asked-judged : Refused (judgement order) → number ≡ judgement order
+      asked-judged : Refusal (judgement order) → number ≡ judgement order
       asked-judged f = is ∙ number-order order x f
 
       asked-10 : (number ≡ 10) ↔ Far

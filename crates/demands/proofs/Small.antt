@@ -36,7 +36,7 @@ use Rattle.moving.proofs.Kept.{kept-begun, kept-run}
 use Rattle.mover.specs.declared.run.Ran.{Ran}
 use Rattle.mover.specs.declared.step.Stepped.the-variants.{Again, Done}
 use Rattle.mover.specs.Promise.{RunPromise, StepPromise, caseOf}
-use Rattle.demands.specs.Chain.{then}
+use Rattle.demands.specs.Chain.{between}
 use Rattle.demands.specs.Delivers.{Runnable}
 use Rattle.demands.specs.Sends.{sentTo}
 
@@ -106,7 +106,7 @@ pub start-fits : fits bank start ≡ true
 unfolding fits
 start-fits = refl
 
-ready : (k a b : ℕ) → k ≤ 8 → Ready plan (then (atStep k) (holding a b))
+ready : (k a b : ℕ) → k ≤ 8 → Ready plan (between (atStep k) (holding a b))
 ready k a b h =
     record { sound-plan = small-sound; within = omega (arith, route-eight); fitting = record { area0-long = refl; area1-long = refl; memory-long = refl } }
 
@@ -151,9 +151,9 @@ moved-first : (a b : ℕ) → move (routeOf plan) 0 (holding a b) ≡ holding 1 
 unfolding move readMove readTakes readFrom copied each eachFrom passOf loadOf phaseOf turnOf passSteps loadSteps phases stripes stripeAt
 moved-first a b = ap (λ (r : Route). move r 0 (holding a b)) small-route
 
-done-by : (k n a b : ℕ) → stepNumber plan (then (atStep k) (holding a b)) 0 ≡ n
-    → stepped plan (then (atStep k) (holding a b)) 0 ≡ then (atStep 1) (move (routeOf plan) 0 (holding a b))
-    → StepPromise plan (then (atStep k) (holding a b)) 0 (caseOf n (atStep 1)) (holding 1 b)
+done-by : (k n a b : ℕ) → stepNumber plan (between (atStep k) (holding a b)) 0 ≡ n
+    → stepped plan (between (atStep k) (holding a b)) 0 ≡ between (atStep 1) (move (routeOf plan) 0 (holding a b))
+    → StepPromise plan (between (atStep k) (holding a b)) 0 (caseOf n (atStep 1)) (holding 1 b)
 done-by k n a b number done =
     record {
       answered = sym (ap₂ caseOf number (ap (λ (m : Moment). m .state) done));
@@ -166,8 +166,8 @@ step-promised a b =
     let number = next-number plan (begun (holding a b)) 0 (ready 0 a b (omega arith)) (omega (arith, route-eight)) refl in
     done-by 0 0 a b number (step-done plan (begun (holding a b)) 0 number)
 
-pub again-promised : (a b : ℕ) → StepPromise plan (then (atStep 1) (holding a b)) 0 (Again (atStep 1)) (holding 1 b)
+pub again-promised : (a b : ℕ) → StepPromise plan (between (atStep 1) (holding a b)) 0 (Again (atStep 1)) (holding 1 b)
 unfolding caseOf
 again-promised a b =
-    let number = again-number plan (then (atStep 1) (holding a b)) 0 (ready 1 a b (omega arith)) (omega (arith, route-eight)) refl in
-    done-by 1 9 a b number (step-nine plan (then (atStep 1) (holding a b)) 0 number)
+    let number = again-number plan (between (atStep 1) (holding a b)) 0 (ready 1 a b (omega arith)) (omega (arith, route-eight)) refl in
+    done-by 1 9 a b number (step-nine plan (between (atStep 1) (holding a b)) 0 number)

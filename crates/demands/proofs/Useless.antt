@@ -23,7 +23,7 @@ use Rattle.mover.specs.declared.step.Stepped.the-variants.{Again, Done, Refused
 use Rattle.mover.specs.Promise.{numberOf, stateOf}
 use Rattle.text.specs.Listing.{listing}
 use Rattle.demands.specs.Answers.{Answers}
-use Rattle.demands.specs.Chain.{newSteps, then}
+use Rattle.demands.specs.Chain.{newSteps, between}
 use Rattle.demands.specs.Chain.Called.{allowed}
 use Rattle.demands.specs.Chain.Chain.{none, run}
 use Rattle.demands.specs.Delivers.{Carries, Delivered, Delivers, Reached, areaNamed}
@@ -109,7 +109,7 @@ module _ (M : Mover) (h : Delivers M) where
       ap (λ (y : ℕ). getD (recordOf 1 (areaNamed (M .area plan) w) y) 0 0) (sym sent-0)
       ∙ ap (λ (l : List ℕ). getD l 0 0)
       (subst (Delivered M small) plans (h .own small refl judges .delivers) start start-fits
-      (allowed 8 ended ∷ []) (then (atStep 8) w) (run 8 ended p none) (sym all) 0 (omega arith))
+      (allowed 8 ended ∷ []) (between (atStep 8) w) (run 8 ended p none) (sym all) 0 (omega arith))
 
   first-read : (l : 0 < M .total plan) → ReadStep M plan 0 (carried .one-block 0 l .blockOn)
   first-read l = carried .one-block 0 l .reading reads-first
@@ -137,7 +137,7 @@ unfolding numberOf stateOf quiet
 refusesRepeats-fails h =
     let z : _≡_ {A = ℕ} 5 9 =
     h .repeats plan (begun start) 0 (Done (atStep 1)) (holding 1 0) (Done (atStep 1), holding 1 0, step-promised 0 0, refl, refl) refl
-    [] (then (atStep 1) (holding 1 0)) none refl (Refused 5 (atStep 1)) (holding 1 0) (Again (atStep 1), holding 1 0, again-promised 1 0, refl, refl) .0 in
+    [] (between (atStep 1) (holding 1 0)) none refl (Refused 5 (atStep 1)) (holding 1 0) (Again (atStep 1), holding 1 0, again-promised 1 0, refl, refl) .0 in
     omega arith
 
 -- there is 0 in area 1 where nothing moved, and 2 in area 0

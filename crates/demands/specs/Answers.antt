@@ -20,22 +20,22 @@ use Rattle.text.specs.Reading.{noOrder}
 use Rattle.demands.specs.Mover.{Mover}
 use Rattle.demands.specs.Numbers.{Numbers}
 
--- a number that isn't 0
-abbrev pub Refused : ℕ → Type 0
-Refused k = k ≡ 0 → ⊥
+-- a number that refuses: of every call but a step, each but 0
+abbrev pub Refusal : ℕ → Type 0
+Refusal k = k ≡ 0 → ⊥
 
 pub record Answers (M : Mover) : Type 0 where
   -- each number of a step, a run and a text exactly when it is due
   pub numbered : Numbers M
   -- asked forwards: address 0 with a refusal
-  pub target-refused : (order : Order) (x : ℕ) → Refused (M .sends order x .number) → M .sends order x .address .0 ≡ 0
+  pub target-refused : (order : Order) (x : ℕ) → Refusal (M .sends order x .number) → M .sends order x .address .0 ≡ 0
   -- asked backwards: the number alone with a refusal, and one answer
-  pub source-refused : (order : Order) (y : ℕ) (a : Source) → M .finds order y a → Refused (meaningOf a .number) → meaningOf a .sources ≡ []
+  pub source-refused : (order : Order) (y : ℕ) (a : Source) → M .finds order y a → Refusal (meaningOf a .number) → meaningOf a .sources ≡ []
   pub source-some : (order : Order) (y : ℕ) → (a : Source) × M .finds order y a
   pub source-one : (order : Order) (y : ℕ) (a b : Source) → M .finds order y a → M .finds order y b → a ≡ b
   -- planning: the number of the judgement, and the empty plan with a refusal
   pub plan-number : (order : Order) → M .plans order .number ≡ M .judges order
-  pub plan-refused : (order : Order) → Refused (M .judges order) → M .plans order .plan ≡ emptyPlan
+  pub plan-refused : (order : Order) → Refusal (M .judges order) → M .plans order .plan ≡ emptyPlan
   -- a step: one step on with 0, the state unchanged with 9, state and bytes unchanged with a refusal; and one outcome
   pub step-done : (plan : Plan) (m : Moment) (k : ℕ) (r : Stepped) (w : Buffers) → M .step plan m k r w
       → numberOf r ≡ 0 → stateOf r .next .0 ≡ m .state .next .0 + 1
@@ -51,12 +51,12 @@ pub record Answers (M : Mover) : Type 0 where
   pub run-done : (plan : Plan) (m : Moment) (q : ℕ) (r : Ran) (w : Buffers) → M .run plan m q r w → r .number ≡ 0
       → (r .count ≡ min q (M .total plan - m .state .next .0)) × (r .state .next .0 ≡ m .state .next .0 + r .count)
   pub run-refused : (plan : Plan) (m : Moment) (q : ℕ) (r : Ran) (w : Buffers) → M .run plan m q r w
-      → Refused (r .number) → (r .count ≡ 0) × (r .state ≡ m .state) × (w ≡ m .buffers)
+      → Refusal (r .number) → (r .count ≡ 0) × (r .state ≡ m .state) × (w ≡ m .buffers)
   pub run-some : (plan : Plan) (m : Moment) (q : ℕ) → (r : Ran) × (w : Buffers) × M .run plan m q r w
   pub run-one : (plan : Plan) (m : Moment) (q : ℕ) (r r′ : Ran) (w w′ : Buffers)
       → M .run plan m q r w → M .run plan m q r′ w′ → (r ≡ r′) × (w ≡ w′)
   -- reading a text: an order zero everywhere with a refusal, and one outcome
-  pub read-refused : (text : List ℕ) (k : ℕ) (order : Order) → M .reads text k order → Refused k → order ≡ noOrder
+  pub read-refused : (text : List ℕ) (k : ℕ) (order : Order) → M .reads text k order → Refusal k → order ≡ noOrder
   pub read-some : (text : List ℕ) → (k : ℕ) × (order : Order) × M .reads text k order
   pub read-one : (text : List ℕ) (k k′ : ℕ) (order order′ : Order)
       → M .reads text k order → M .reads text k′ order′ → (k ≡ k′) × (order ≡ order′)

@@ -29,24 +29,24 @@ pub data Called : Type 0 where
   strayAsked : Stray → ℕ → Stepped → Called
   strayAllowed : Stray → ℕ → Ran → Called
 
--- what a call leaves to the next: the state that it handed back, and the bytes
-abbrev pub then : State → Buffers → Moment
-then state v = record { state = state; buffers = v }
+-- what a line has between two calls: a state, and the bytes
+abbrev pub between : State → Buffers → Moment
+between state v = record { state = state; buffers = v }
 
 -- what another's call sees, and what the line has once the lent bytes are given back
 abbrev pub strayed : Stray → Moment → Moment
-strayed stray m = then (stray .state) (stray .lent (m .buffers))
+strayed stray m = between (stray .state) (stray .lent (m .buffers))
 
 abbrev pub returned : Stray → Moment → Buffers → Moment
-returned stray m w = then (m .state) (stray .back (m .buffers) w)
+returned stray m w = between (m .state) (stray .back (m .buffers) w)
 
 -- from a moment to a moment by calls that the mover may answer so; another's call is refused
 pub data Chain (M : Mover) (plan : Plan) : Moment → List Called → Moment → Type 0 where
   none : {m : Moment} → Chain M plan m [] m
   step : {m end : Moment} {w : Buffers} {cs : List Called} (k : ℕ) (answer : Stepped)
-      → M .step plan m k answer w → Chain M plan (then (stateOf answer) w) cs end → Chain M plan m (asked k answer ∷ cs) end
+      → M .step plan m k answer w → Chain M plan (between (stateOf answer) w) cs end → Chain M plan m (asked k answer ∷ cs) end
   run : {m end : Moment} {w : Buffers} {cs : List Called} (q : ℕ) (answer : Ran)
-      → M .run plan m q answer w → Chain M plan (then (answer .state) w) cs end → Chain M plan m (allowed q answer ∷ cs) end
+      → M .run plan m q answer w → Chain M plan (between (answer .state) w) cs end → Chain M plan m (allowed q answer ∷ cs) end
   strayStep : {m end : Moment} {w : Buffers} {cs : List Called} (stray : Stray) (k : ℕ) (answer : Stepped)
       → M .step (stray .plan) (strayed stray m) k answer w → refuses (numberOf answer) ≡ true
       → Chain M plan (returned stray m w) cs end → Chain M plan m (strayAsked stray k answer ∷ cs) end

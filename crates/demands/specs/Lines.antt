@@ -11,16 +11,16 @@ use Rattle.moving.specs.Call.{Moment, refuses}
 use Rattle.mover.specs.declared.run.Ran.{Ran}
 use Rattle.mover.specs.Promise.{numberOf}
 use Rattle.demands.specs.Mover.{Mover}
-use Rattle.demands.specs.Chain.{Called, Chain, then}
+use Rattle.demands.specs.Chain.{Called, Chain, between}
 use Rattle.demands.specs.Chain.Called.{asked, allowed, strayAsked, strayAllowed}
 
 -- a line with its refused calls left out, those of others too
-unfoldable pub taken : List Called → List Called
-taken [] = []
-taken (asked k answer ∷ cs) = cond (refuses (numberOf answer)) (taken cs) (asked k answer ∷ taken cs)
-taken (allowed q answer ∷ cs) = cond (eqb (answer .number) 0) (allowed q answer ∷ taken cs) (taken cs)
-taken (strayAsked stray k answer ∷ cs) = taken cs
-taken (strayAllowed stray q answer ∷ cs) = taken cs
+unfoldable pub withoutRefused : List Called → List Called
+withoutRefused [] = []
+withoutRefused (asked k answer ∷ cs) = cond (refuses (numberOf answer)) (withoutRefused cs) (asked k answer ∷ withoutRefused cs)
+withoutRefused (allowed q answer ∷ cs) = cond (eqb (answer .number) 0) (allowed q answer ∷ withoutRefused cs) (withoutRefused cs)
+withoutRefused (strayAsked stray k answer ∷ cs) = withoutRefused cs
+withoutRefused (strayAllowed stray q answer ∷ cs) = withoutRefused cs
 
 -- steps asked in turn from step j on, each done
 unfoldable pub inTurn : ℕ → List Called → Bool
@@ -39,10 +39,10 @@ pub record Stepwise (M : Mover) (plan : Plan) (m : Moment) (count : ℕ) (end : 
 
 pub record Lines (M : Mover) : Type 0 where
   -- a line and the same line with its refused calls left out end with the same state and bytes
-  pub refused-out : (plan : Plan) (m : Moment) (cs : List Called) (end : Moment) → Chain M plan m cs end → Chain M plan m (taken cs) end
+  pub refused-out : (plan : Plan) (m : Moment) (cs : List Called) (end : Moment) → Chain M plan m cs end → Chain M plan m (withoutRefused cs) end
   -- two runs in a row and one run of their sum agree: numbers, counts, state and bytes
   pub runs-add : (plan : Plan) (m : Moment) (q q′ : ℕ) (r r′ s : Ran) (w w′ u : Buffers)
-      → M .run plan m q r w → M .run plan (then (r .state) w) q′ r′ w′ → M .run plan m (q + q′) s u
+      → M .run plan m q r w → M .run plan (between (r .state) w) q′ r′ w′ → M .run plan m (q + q′) s u
       → (r .number ≡ s .number) × (r′ .number ≡ s .number) × (r .count + r′ .count ≡ s .count) × (r′ .state ≡ s .state) × (w′ ≡ u)
   -- a run comes to what its steps do, asked in turn
-  pub run-steps : (plan : Plan) (m : Moment) (q : ℕ) (r : Ran) (w : Buffers) → M .run plan m q r w → Stepwise M plan m (r .count) (then (r .state) w)
+  pub run-steps : (plan : Plan) (m : Moment) (q : ℕ) (r : Ran) (w : Buffers) → M .run plan m q r w → Stepwise M plan m (r .count) (between (r .state) w)

@@ -44,22 +44,22 @@ pub record RunNumbers (plan : Plan) (m : Moment) (r : Ran) : Type 0 where
   pub gives-0 : (r .number ≡ 0) ↔ Ready plan m
 
 -- the text begins with a first line whose geometry is inside the limits, or outside
-abbrev pub Begun : List ℕ → Geometry → Type 0
-Begun text g = Begins text g × (inLimits g ≡ true)
+abbrev pub Inside : List ℕ → Geometry → Type 0
+Inside text g = Begins text g × (inLimits g ≡ true)
 
 abbrev pub Outside : List ℕ → Geometry → Type 0
 Outside text g = Begins text g × (inLimits g ≡ false)
 
 -- the text has no first line, or one inside the limits with a rest that is no order's
 abbrev pub Unreadable : List ℕ → Type 0
-Unreadable text = ((g : Geometry) → Begins text g → ⊥) ⊎ ((g : Geometry) × Begun text g × ((order : Order) → Whole text g order → ⊥))
+Unreadable text = ((g : Geometry) → Begins text g → ⊥) ⊎ ((g : Geometry) × Inside text g × ((order : Order) → Whole text g order → ⊥))
 
 -- the number k of a text
 pub record TextNumbers (M : Mover) (text : List ℕ) (k : ℕ) : Type 0 where
   pub gives-8 : (k ≡ 8) ↔ Unreadable text
   pub gives-1 : (k ≡ 1) ↔ ((g : Geometry) × Outside text g)
-  pub gives-3 : (k ≡ 3) ↔ ((g : Geometry) × (order : Order) × Begun text g × Whole text g order × (M .judges order ≡ 3))
-  pub gives-0 : (k ≡ 0) ↔ ((g : Geometry) × (order : Order) × Begun text g × Whole text g order × (M .judges order ≡ 0))
+  pub gives-3 : (k ≡ 3) ↔ ((g : Geometry) × (order : Order) × Inside text g × Whole text g order × (M .judges order ≡ 3))
+  pub gives-0 : (k ≡ 0) ↔ ((g : Geometry) × (order : Order) × Inside text g × Whole text g order × (M .judges order ≡ 0))
 
 pub record Numbers (M : Mover) : Type 0 where
   pub of-step : (plan : Plan) (m : Moment) (k : ℕ) (r : Stepped) (w : Buffers) → M .step plan m k r w → StepNumbers M plan m k r

@@ -15,7 +15,7 @@ use Rattle.order.specs.declared.address.Source.{Source}
 use Rattle.order.specs.Order.{matrixOf, badForm}
 use Rattle.order.specs.Address.{meaningOf}
 use Rattle.demands.specs.Mover.{Mover}
-use Rattle.demands.specs.Answers.{Refused}
+use Rattle.demands.specs.Answers.{Refusal}
 
 -- Ax xor c
 abbrev pub sentTo : Order → ℕ → ℕ
@@ -56,9 +56,9 @@ pub record Addresses (M : Mover) (order : Order) : Type 0 where
   pub gives-2 : (M .judges order ≡ 2) ↔ ((inLimits (order .geometry) ≡ true) × (badForm order ≡ true))
   pub gives-0 : (M .judges order ≡ 0) ↔ (Formed order × (SharedTarget order → ⊥))
   -- the number of a question: the order's own where that refuses; then 10 exactly for an address of N or more
-  pub asks-judged : (x : ℕ) → Refused (M .judges order) → M .sends order x .number ≡ M .judges order
+  pub asks-judged : (x : ℕ) → Refusal (M .judges order) → M .sends order x .number ≡ M .judges order
   pub asks-10 : (x : ℕ) → (M .sends order x .number ≡ 10) ↔ ((M .judges order ≡ 0) × (records (order .geometry) ≤ x))
-  pub back-judged : (y : ℕ) (a : Source) → M .finds order y a → Refused (M .judges order) → meaningOf a .number ≡ M .judges order
+  pub back-judged : (y : ℕ) (a : Source) → M .finds order y a → Refusal (M .judges order) → meaningOf a .number ≡ M .judges order
   pub back-10 : (y : ℕ) (a : Source) → M .finds order y a → (meaningOf a .number ≡ 10) ↔ ((M .judges order ≡ 0) × (records (order .geometry) ≤ y))
 
 -- so it is for every order; the rows of an order fill the room of their array
