@@ -24,7 +24,7 @@ use Rattle.demands.specs.Answers.{Answers}
 use Rattle.demands.specs.Chain.{Called, Chain, strayed, between}
 use Rattle.demands.specs.Chain.Called.{asked, allowed}
 use Rattle.demands.specs.Chain.Chain.{none, step, run, strayStep, strayRun}
-use Rattle.demands.specs.Lines.{Lines, Stepwise, inTurn, withoutRefused}
+use Rattle.demands.specs.Lines.{Lines, Stepwise, doneInTurn, withoutRefused}
 use Rattle.demands.proofs.Promised.{given-back, run-moment, stepAnswer, step-moment, step-number, step-promised}
 
 -- ---- refused calls left out
@@ -109,7 +109,7 @@ module _ (plan : Plan) (m : Moment) (r : Ready plan m) (h : m .state .next .0 < 
   run-rest k = ap (λ (w : Moment). ran plan w k) (sym (run-one plan m r h)) ∙ run-again plan m 1 k ∙ ap (ran plan m) (omega arith)
 
   one-more : (k : ℕ) → Stepwise ours plan after k (ran plan after k) → Stepwise ours plan m (suc k) (ran plan m (suc k))
-  unfolding inTurn
+  unfolding doneInTurn
   one-more k rest =
       let answer = stepAnswer plan m next in
       let p = step-promised plan m next in
@@ -120,12 +120,12 @@ module _ (plan : Plan) (m : Moment) (r : Ready plan m) (h : m .state .next .0 < 
             (step next answer p (subst (λ (x : Moment). Chain ours plan x (rest .calls) (ran plan after k)) (sym (step-moment plan m next answer (after .buffers) p)) (rest .chain)));
         turns =
             rw (eq-eqb next next refl, eq-eqb (numberOf answer) 0 (step-number plan m next answer (after .buffers) p ∙ done))
-            (ap (λ (j : ℕ). inTurn j (rest .calls)) (sym one-on) ∙ rest .turns);
+            (ap (λ (j : ℕ). doneInTurn j (rest .calls)) (sym one-on) ∙ rest .turns);
         as-many = ap suc (rest .as-many);
       }
 
 steps-of : (plan : Plan) (k : ℕ) (m : Moment) → Ready plan m → k ≤ total (routeOf plan) - m .state .next .0 → Stepwise ours plan m k (ran plan m k)
-unfolding inTurn
+unfolding doneInTurn
 steps-of plan zero m r h =
     record { calls = []; chain = subst (Chain ours plan m []) (sym (run-none plan m)) none; turns = refl; as-many = refl }
 steps-of plan (suc k) m r h =
@@ -133,7 +133,7 @@ steps-of plan (suc k) m r h =
     (steps-of plan k (stepped plan m (m .state .next .0)) (step-ready plan m (m .state .next .0) r) (omega (arith, one-on plan m r (omega arith))))
 
 run-steps : (plan : Plan) (m : Moment) (q : ℕ) → Stepwise ours plan m (runCount plan m q) (ran plan m q)
-unfolding inTurn
+unfolding doneInTurn
 run-steps plan m q =
     by-run plan m (Stepwise ours plan m (runCount plan m q) (ran plan m q))
     (λ e. let c = run-count plan m q e in

@@ -23,18 +23,18 @@ withoutRefused (strayAsked stray k answer ∷ cs) = withoutRefused cs
 withoutRefused (strayAllowed stray q answer ∷ cs) = withoutRefused cs
 
 -- steps asked in turn from step j on, each done
-unfoldable pub inTurn : ℕ → List Called → Bool
-inTurn j [] = true
-inTurn j (asked k answer ∷ cs) = eqb k j && eqb (numberOf answer) 0 && inTurn (suc j) cs
-inTurn j (allowed q answer ∷ cs) = false
-inTurn j (strayAsked stray k answer ∷ cs) = false
-inTurn j (strayAllowed stray q answer ∷ cs) = false
+unfoldable pub doneInTurn : ℕ → List Called → Bool
+doneInTurn j [] = true
+doneInTurn j (asked k answer ∷ cs) = eqb k j && eqb (numberOf answer) 0 && doneInTurn (suc j) cs
+doneInTurn j (allowed q answer ∷ cs) = false
+doneInTurn j (strayAsked stray k answer ∷ cs) = false
+doneInTurn j (strayAllowed stray q answer ∷ cs) = false
 
 -- the steps that a run did, as a chain of step calls from m to the moment that the run left
 pub record Stepwise (M : Mover) (plan : Plan) (m : Moment) (count : ℕ) (end : Moment) : Type 0 where
   pub calls : List Called
   pub chain : Chain M plan m calls end
-  pub turns : inTurn (m .state .next .0) calls ≡ true
+  pub turns : doneInTurn (m .state .next .0) calls ≡ true
   pub as-many : length calls ≡ count
 
 pub record Lines (M : Mover) : Type 0 where
