@@ -1,8 +1,8 @@
 -- Our mover has demand 3, by its own plans and by any plan that performs an order. Assumes nothing.
-use mathlib.Core.Path.{_≡_, refl, sym, ap, _∙_, subst}
+use mathlib.Core.Path.{_≡_, refl, sym, ap, ap₂, _∙_, subst}
 use mathlib.Core.Bool.{true, cond}
 use mathlib.Core.List.{List}
-use Prim.Native.Nat.{ℕ, zero, suc, _+_, _-_, _%_, _*_, _/_, _<_, _≤_}
+use Prim.Native.Nat.{ℕ, zero, suc, _+_, _-_, _%_, _*_, _<_, _≤_}
 use native.Mathlib.Nat.{add-assoc, add-zero, le-of-eq, zero-add}
 use native.Mathlib.Omega.{arith}
 use lib.Dec.{eqb}
@@ -11,16 +11,16 @@ use Rattle.algebra.proofs.Listed.{listed-length}
 use Rattle.algebra.specs.Matrix.{columns, rank, target}
 use Rattle.bank.specs.Limits.{PASSES, ROWS}
 use Rattle.bank.specs.declared.Geometry.{Geometry}
-use Rattle.bank.specs.Geometry.{block, drives, records}
+use Rattle.bank.specs.Geometry.{records}
 use Rattle.order.specs.declared.Order.{Order}
 use Rattle.order.specs.Order.{matrixOf, judgement}
 use Rattle.planning.specs.declared.Plan.{Plan}
 use Rattle.planning.specs.Columns.{phi}
 use Rattle.planning.specs.Making.{dividedUp}
-use Rattle.planning.specs.Pass.{passSteps, performed, phases, total}
+use Rattle.planning.specs.Pass.{performed, total}
 use Rattle.planning.specs.Stored.{planFor, planOf, routeOf, storedRows}
 use Rattle.planning.proofs.Made.{runs-bound}
-use Rattle.planning.proofs.Running.{sound→can-run, sound→runs}
+use Rattle.planning.proofs.Running.{sound-allowed, sound→can-run, sound→runs}
 use Rattle.planning.proofs.Stored.{route-length}
 use Rattle.plan.specs.declared.make.Planned.{Planned}
 use Rattle.plan.specs.Answer.{plannedFor}
@@ -31,6 +31,7 @@ use Rattle.moving.specs.Bytes.{recordOf}
 use Rattle.moving.specs.Step.{Buffers, areaBy, areaOf, fits}
 use Rattle.moving.specs.Call.{Moment, begun, ran}
 use Rattle.moving.proofs.Calls.{Ready, can→ready, next-number, ready-run}
+use Rattle.moving.proofs.Numbers.{pass-twice}
 use Rattle.moving.proofs.Kept.{Kept, delivered, kept-begun, kept-ready, kept-run, kept-step, step-advance}
 use Rattle.mover.specs.Promise.{numberOf}
 use Rattle.mover.proofs.Asked.{total-is}
@@ -107,10 +108,10 @@ module _ (plan : Plan) (can : Runnable plan) where
         }
 
   carries : Carries ours plan
-  unfolding total passSteps phases routeOf
+  unfolding total routeOf
   carries =
       record {
-        steps = all ∙ ap (λ (p : ℕ). 2 * records (plan .geometry) / (block (plan .geometry) * drives (plan .geometry)) * p) (route-length plan);
+        steps = all ∙ ap₂ (λ (each passes : ℕ). each * passes) (pass-twice (routeOf plan) (sound-allowed plan (can .can-run))) (route-length plan);
         one-block = one-step plan (can .room) (can .can-run);
         lines = reached;
       }

@@ -5,6 +5,7 @@ use mathlib.Core.List.{List, []}
 use Prim.Native.Nat.{ℕ, zero, suc, _+_, _-_, _*_, _/_, _<_, _≤_}
 use lib.ListN.{length}
 use Rattle.bank.specs.Limits.{ROWS, PASSES}
+use Rattle.bank.specs.declared.Geometry.{Geometry}
 use Rattle.bank.specs.Geometry.{records, block, drives}
 use Rattle.algebra.specs.Matrix.{columns, rank}
 use Rattle.order.specs.declared.Order.{Order}
@@ -40,6 +41,10 @@ pub record Runnable (plan : Plan) : Type 0 where
   pub can-run : sound plan ≡ true
   pub room : length (plan .rows) ≡ PASSES * ROWS
 
+-- N/(BD), the stripes of an area
+abbrev pub stripesIn : Geometry → ℕ
+stripesIn g = records g / (block g * drives g)
+
 -- where a chain of the mover's calls has come from the fresh state
 pub record Reached (M : Mover) (plan : Plan) (cs : List Called) (end : Moment) : Type 0 where
   -- the steps never run past the total, and the state's next step says how many were done
@@ -50,8 +55,8 @@ pub record Reached (M : Mover) (plan : Plan) (cs : List Called) (end : Moment) :
   pub runs-on : (q : ℕ) (r : Ran) (w : Buffers) → M .run plan end q r w → r .number ≡ 0
 
 pub record Carries (M : Mover) (plan : Plan) : Type 0 where
-  -- 2N/(BD) steps a pass
-  pub steps : M .total plan ≡ 2 * records (plan .geometry) / (block (plan .geometry) * drives (plan .geometry)) * plan .count
+  -- 2N/(BD) steps a pass: a read and a write for each stripe
+  pub steps : M .total plan ≡ (stripesIn (plan .geometry) + stripesIn (plan .geometry)) * plan .count
   -- no step moves more than one block on a drive, and every other byte stays
   pub one-block : (k : ℕ) → k < M .total plan → OneStep M plan k
   -- any bytes of the right lengths, and any chain of calls

@@ -1,7 +1,7 @@
 -- How is a step number taken apart? Assumes nothing.
 use mathlib.Core.Path.{_∙_, _≡_, ap, subst, sym}
 use Prim.Native.Nat.{_%_, _*_, _+_, _-_, _/_, _<_, _^_, _≤_, ℕ}
-use native.Mathlib.Nat.{div-lt-iff-lt-mul, mod-lt, mul-assoc, mul-comm, mul-div-cancel}
+use native.Mathlib.Nat.{div-lt-iff-lt-mul, mod-lt, mul-add, mul-assoc, mul-comm, mul-div-cancel}
 use native.Mathlib.Omega.{arith}
 use lib.Arith.{digits-div, digits-lt, digits-mod}
 use lib.ListN.{getD, length}
@@ -75,6 +75,15 @@ module _ (route : Route) (ok : Allowed (route .geometry)) where
       ∙ ap (λ (k : ℕ). loads geo * k) (sym (mul-assoc (length (phases route)) (stripes geo) (block geo * drives geo)))
       ∙ sym (mul-assoc (loads geo) (length (phases route) * stripes geo) (block geo * drives geo)))
       ∙ mul-div-cancel (loads geo * (length (phases route) * stripes geo)) (stripe-pos geo ok)
+
+  -- a read and a write for each of the N/(BD) stripes of an area
+  pub pass-twice : passSteps route ≡ records geo / (block geo * drives geo) + records geo / (block geo * drives geo)
+  pass-twice =
+      let each : records geo / (block geo * drives geo) ≡ loads geo * stripes geo
+      = ap (λ (k : ℕ). k / (block geo * drives geo))
+      (records-is geo ok ∙ ap (λ (k : ℕ). loads geo * k) (memory-is geo ok) ∙ sym (mul-assoc (loads geo) (stripes geo) (block geo * drives geo)))
+      ∙ mul-div-cancel (loads geo * stripes geo) (stripe-pos geo ok) in
+      pass-is ∙ ap (λ (k : ℕ). loads geo * k) load-is ∙ mul-add (loads geo) (stripes geo) (stripes geo) ∙ sym (ap (λ (k : ℕ). k + k) each)
 
   -- ---- any step number
 

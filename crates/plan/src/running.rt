@@ -16,6 +16,7 @@ use crate::store::pass_rows;
 use bank::PASSES;
 use bank::PLACES;
 use bank::ROWS;
+use planning::Phase;
 use planning::Plan;
 use planning::state::State;
 
@@ -190,7 +191,8 @@ pub fn can_run(plan: Plan, state: State) -> bool
 pub fn phases(plan: Plan) -> u64
     ensures { λ r. ⌜ r ≡ length (phases (routeOf plan)) ⌝ }
 {
-    2
+    let all = [Phase::Reads, Phase::Writes];
+    all.len() as u64
 }
 
 // The steps of a pass times the passes; 0 where the geometry or the count is outside the limits.
