@@ -1,29 +1,27 @@
 -- What do the entries of an elimination reduce to zero? Assumes nothing.
 use mathlib.Core.Path.{_∙_, _≡_, ap, ap₂, refl, sym}
-use mathlib.Core.Bool.{false, not, true}
-use mathlib.Core.List.{List, [], _∷_}
-use Prim.Native.Nat.{_%_, _/_, _<_, _^_, suc, suc-le-suc, zero, zero-le, ℕ}
+use mathlib.Core.Bool.{false, true}
+use mathlib.Core.List.{List, []}
+use Prim.Native.Nat.{_<_, _^_, suc, zero, ℕ}
 use native.Mathlib.Nat.{le-refl, le-suc, le-trans, lt-of-lt-of-le, not-suc-le-zero}
-use lib.Arith.{lt-one}
 use lib.Pow.{pow-mono, pow-pos}
-use lib.Dec.{eqb}
 use lib.ListN.{getD}
 use lib.Bits.{bitXor, xor-lt, xor-self, xor-zero-r}
-use borrow.Author.Tests.{eq-eqb, ne-eqb}
-use Rattle.algebra.proofs.Digits.{bit-lt, bit-xor, bit-zero, half-lt, times-add, times-lt, times-zero, xor-assoc, xor4}
-use Rattle.algebra.proofs.Linear.{Linear, comb-linear, comb-zero, linear-times}
-use Rattle.algebra.proofs.Search.{below-suc, none-intro, some-intro}
-use Rattle.algebra.specs.Elimination.{rest, used}
+use Rattle.algebra.proofs.Digits.{bit-lt, bit-xor, bit-zero, unless-add, unless-lt, unless-zero, xor-assoc, xor4}
+use Rattle.algebra.proofs.Kernel.{marked-intro, unmarked-intro}
+use Rattle.algebra.proofs.Linear.{Linear, comb-linear, comb-one, linear-after, linear-ext, linear-unless}
+use Rattle.algebra.proofs.Search.{below-suc}
+use Rattle.algebra.specs.Elimination.{Echelon, rest, used}
 use Rattle.algebra.specs.Matrix.{marked}
-use Rattle.algebra.specs.Vector.{bit, comb, times}
+use Rattle.algebra.specs.Vector.{bit, comb, unlessZero}
 
 module _ (ws qs : List ℕ) where
   rest-zero : (k : ℕ) → rest ws qs k 0 ≡ 0
-  unfolding rest times
+  unfolding rest unlessZero
   rest-zero zero = refl
   rest-zero (suc k) =
-      ap (λ (u : ℕ). bitXor u (times (bit u (getD qs k 0)) (getD ws k 0))) (rest-zero k)
-      ∙ ap (λ (d : ℕ). times d (getD ws k 0)) (bit-zero (getD qs k 0))
+      ap (λ (u : ℕ). bitXor u (unlessZero (bit u (getD qs k 0)) (getD ws k 0))) (rest-zero k)
+      ∙ ap (λ (d : ℕ). unlessZero d (getD ws k 0)) (bit-zero (getD qs k 0))
 
   rest-xor : (k x y : ℕ) → rest ws qs k (bitXor x y) ≡ bitXor (rest ws qs k x) (rest ws qs k y)
   unfolding rest
@@ -33,43 +31,44 @@ module _ (ws qs : List ℕ) where
       let v = rest ws qs k y in
       let q = getD qs k 0 in
       let w = getD ws k 0 in
-      ap (λ (a : ℕ). bitXor a (times (bit a q) w)) (rest-xor k x y)
-      ∙ ap (bitXor (bitXor u v)) (ap (λ (d : ℕ). times d w) (bit-xor u v q) ∙ times-add (bit u q) (bit v q) w (bit-lt u q) (bit-lt v q))
-      ∙ xor4 u v (times (bit u q) w) (times (bit v q) w)
+      ap (λ (a : ℕ). bitXor a (unlessZero (bit a q) w)) (rest-xor k x y)
+      ∙ ap (bitXor (bitXor u v)) (ap (λ (d : ℕ). unlessZero d w) (bit-xor u v q) ∙ unless-add (bit u q) (bit v q) w (bit-lt u q) (bit-lt v q))
+      ∙ xor4 u v (unlessZero (bit u q) w) (unlessZero (bit v q) w)
 
   pub rest-linear : (k : ℕ) → Linear (rest ws qs k)
   rest-linear k = record { none = rest-zero k; sum = rest-xor k }
 
   -- a linear function goes through the sum
-  pub used-through : (g : ℕ → ℕ) → Linear g → (ts us : List ℕ) (k v : ℕ) → ((i : ℕ) → i < k → g (getD ts i 0) ≡ getD us i 0)
+  used-through : (g : ℕ → ℕ) → Linear g → (ts us : List ℕ) (k v : ℕ) → ((i : ℕ) → i < k → g (getD ts i 0) ≡ getD us i 0)
       → g (used ws qs ts k v) ≡ used ws qs us k v
   unfolding used
   used-through g l ts us zero v h = l .none
   used-through g l ts us (suc k) v h =
       let d = bit (rest ws qs k v) (getD qs k 0) in
-      l .sum (used ws qs ts k v) (times d (getD ts k 0))
+      l .sum (used ws qs ts k v) (unlessZero d (getD ts k 0))
       ∙ ap₂ bitXor (used-through g l ts us k v (λ i p. h i (le-trans p (le-suc k))))
-      (linear-times g l d (getD ts k 0) ∙ ap (times d) (h k (le-refl (suc k))))
+      (linear-unless g l d (getD ts k 0) ∙ ap (unlessZero d) (h k (le-refl (suc k))))
 
   used-none : (k v : ℕ) → used ws qs [] k v ≡ 0
   unfolding used
   used-none zero v = refl
-  used-none (suc k) v = ap₂ bitXor (used-none k v) (times-zero (bit (rest ws qs k v) (getD qs k 0)))
+  used-none (suc k) v = ap₂ bitXor (used-none k v) (unless-zero (bit (rest ws qs k v) (getD qs k 0)))
 
   -- the rest is v and the entries that were added
-  pub rest-used : (k v : ℕ) → rest ws qs k v ≡ bitXor v (used ws qs ws k v)
+  rest-used : (k v : ℕ) → rest ws qs k v ≡ bitXor v (used ws qs ws k v)
   unfolding rest used
   rest-used zero v = sym (xor-zero-r v)
   rest-used (suc k) v =
-      let a = times (bit (rest ws qs k v) (getD qs k 0)) (getD ws k 0) in
+      let a = unlessZero (bit (rest ws qs k v) (getD qs k 0)) (getD ws k 0) in
       ap (λ (u : ℕ). bitXor u a) (rest-used k v) ∙ xor-assoc v (used ws qs ws k v) a
 
-  pub used-lt : (ts : List ℕ) (j k v : ℕ) → ((i : ℕ) → i < k → getD ts i 0 < 2 ^ j) → used ws qs ts k v < 2 ^ j
+  used-lt : (ts : List ℕ) (j k v : ℕ) → ((i : ℕ) → i < k → getD ts i 0 < 2 ^ j) → used ws qs ts k v < 2 ^ j
   unfolding used
   used-lt ts j zero v h = pow-pos j
   used-lt ts j (suc k) v h =
       let d = bit (rest ws qs k v) (getD qs k 0) in
-      xor-lt j (used ws qs ts k v) (times d (getD ts k 0)) (used-lt ts j k v (λ i p. h i (le-trans p (le-suc k)))) (times-lt j d (getD ts k 0) (h k (le-refl (suc k))))
+      xor-lt j (used ws qs ts k v) (unlessZero d (getD ts k 0)) (used-lt ts j k v (λ i p. h i (le-trans p (le-suc k))))
+      (unless-lt j d (getD ts k 0) (h k (le-refl (suc k))))
 
   -- where the entries reduce to zero, what is reduced stays
   pub rest-rest : (k v : ℕ) → ((i : ℕ) → i < k → rest ws qs k (getD ws i 0) ≡ 0) → rest ws qs k (rest ws qs k v) ≡ rest ws qs k v
@@ -79,8 +78,8 @@ module _ (ws qs : List ℕ) where
       ∙ xor-zero-r (rest ws qs k v)
 
 -- only the first k entries count
-pub rest-same : (ws qs ws′ qs′ : List ℕ) (k v : ℕ) → ((i : ℕ) → i < k → getD ws′ i 0 ≡ getD ws i 0) → ((i : ℕ) → i < k → getD qs′ i 0 ≡ getD qs i 0)
-    → rest ws′ qs′ k v ≡ rest ws qs k v
+pub rest-same : (ws qs ws′ qs′ : List ℕ) (k v : ℕ) → ((i : ℕ) → i < k → getD ws′ i 0 ≡ getD ws i 0)
+    → ((i : ℕ) → i < k → getD qs′ i 0 ≡ getD qs i 0) → rest ws′ qs′ k v ≡ rest ws qs k v
 unfolding rest
 rest-same ws qs ws′ qs′ zero v hw hq = refl
 rest-same ws qs ws′ qs′ (suc k) v hw hq =
@@ -90,14 +89,18 @@ rest-same ws qs ws′ qs′ (suc k) v hw hq =
     cc (e, a, b)
 
 -- a linear function that sends the first j columns to zero sends what they span to zero
-pub span-zero : (g : ℕ → ℕ) → Linear g → (cols : List ℕ) (j s : ℕ) → ((i : ℕ) → i < j → g (getD cols i 0) ≡ 0) → s < 2 ^ j → g (comb cols s) ≡ 0
-unfolding comb
-span-zero g l [] j s h p = l .none
-span-zero g l (v ∷ vs) zero s h p = ap (λ (k : ℕ). g (comb (v ∷ vs) k)) (lt-one p) ∙ ap g (comb-zero (v ∷ vs)) ∙ l .none
-span-zero g l (v ∷ vs) (suc j) s h p =
-    l .sum (times (s % 2) v) (comb vs (s / 2))
-    ∙ ap₂ bitXor (linear-times g l (s % 2) v ∙ ap (times (s % 2)) (h 0 (suc-le-suc zero-le)) ∙ times-zero (s % 2))
-    (span-zero g l vs j (s / 2) (λ i q. h (suc i) (suc-le-suc q)) (half-lt j p))
+pub span-zero : (g : ℕ → ℕ) → Linear g → (cols : List ℕ) (j s : ℕ)
+    → ((i : ℕ) → i < j → g (getD cols i 0) ≡ 0) → s < 2 ^ j → g (comb cols s) ≡ 0
+span-zero g l cols j s h p =
+    linear-ext (λ t. g (comb cols t)) (λ t. 0) (linear-after g (comb cols) l (comb-linear cols)) (record { none = refl; sum = λ x y. refl }) j
+    (λ i q. ap g (comb-one cols i) ∙ h i q) s p
+
+-- what the entries of an echelon leave of a vector, and which columns they use
+abbrev pub restOf : Echelon → ℕ → ℕ
+restOf e v = rest (e .vectors) (e .pivots) (e .count) v
+
+abbrev pub usedOf : Echelon → ℕ → ℕ
+usedOf e v = used (e .vectors) (e .pivots) (e .tags) (e .count) v
 
 -- what the first j columns have made
 pub record Basis (cols : List ℕ) (j : ℕ) (ws qs ts : List ℕ) (k : ℕ) : Type 0 where
@@ -132,16 +135,10 @@ module _ (cols : List ℕ) (j : ℕ) (ws qs ts : List ℕ) (k : ℕ) (b : Basis 
 
   -- column j is marked exactly where its rest is not zero
   pub rest→marked : (rest ws qs k (getD cols j 0) ≡ 0 → ⊥) → marked cols j ≡ true
-  unfolding marked
-  rest→marked f =
-      ap not (none-intro (λ s. eqb (comb cols s) (getD cols j 0)) (2 ^ j)
-      (λ s h. ne-eqb (comb cols s) (getD cols j 0) (λ e. f (ap (rest ws qs k) (sym e) ∙ spanned s h))))
+  rest→marked f = marked-intro cols j (λ s h e. f (ap (rest ws qs k) (sym e) ∙ spanned s h))
 
   pub rest→unmarked : rest ws qs k (getD cols j 0) ≡ 0 → marked cols j ≡ false
-  unfolding marked
-  rest→unmarked e =
-      ap not (some-intro (λ s. eqb (comb cols s) (getD cols j 0)) (2 ^ j) (used ws qs ts k (getD cols j 0)) (used-below (getD cols j 0))
-      (eq-eqb (comb cols (used ws qs ts k (getD cols j 0))) (getD cols j 0) (solved-zero (getD cols j 0) e)))
+  rest→unmarked e = unmarked-intro cols j (used ws qs ts k (getD cols j 0)) (used-below (getD cols j 0)) (solved-zero (getD cols j 0) e)
 
   -- nothing is inserted where the rest is zero
   pub skip : rest ws qs k (getD cols j 0) ≡ 0 → Basis cols (suc j) ws qs ts k

@@ -1,6 +1,6 @@
 -- What is true of the entries after any number of columns? Assumes nothing.
 use mathlib.Core.Path.{_∙_, _≡_, ap, ap₂, refl, subst, sym}
-use mathlib.Core.Bool.{Bool, false, true}
+use mathlib.Core.Bool.{Bool, false, true, cond}
 use mathlib.Core.Logic.{⊎-elim}
 use mathlib.Core.List.{List}
 use Prim.Native.Nat.{_%_, _+_, _/_, _<_, _^_, _≤_, suc, zero, zero-le, ℕ}
@@ -15,12 +15,12 @@ use lib.ListN.{getD, length, length-replicate, length-set, set}
 use lib.Seq.{getD-set-other, getD-set-same}
 use lib.Bits.{bitXor}
 use borrow.Author.Tests.{eqb-false, eqb-true}
-use Rattle.algebra.proofs.Basis.{Basis, rest→marked, rest→unmarked, skip, start}
+use Rattle.algebra.proofs.Basis.{Basis, restOf, rest→marked, rest→unmarked, skip, start, usedOf}
 use Rattle.algebra.proofs.Digits.{bit-cases, bit-here, bit-suc, digit, half-lt}
 use Rattle.algebra.proofs.Pivots.{Pivots, insert, pivots-insert, rest-lt}
 use Rattle.algebra.proofs.Search.{below-suc}
-use Rattle.algebra.specs.Elimination.{Echelon, built, choose, grown, noEntries, rest, used, withEntry}
-use Rattle.algebra.specs.Matrix.{oneIf, rank}
+use Rattle.algebra.specs.Elimination.{Echelon, built, grown, noEntries, withEntry}
+use Rattle.algebra.specs.Matrix.{rank}
 use Rattle.algebra.specs.Vector.{WORD, bit}
 
 -- the lowest set bit is set
@@ -55,16 +55,17 @@ built-empty room cols n = record {
   long-ts = length-replicate {A = ℕ} room 0;
 }
 
-module _ (room : ℕ) (cols : List ℕ) (n : ℕ) (hn : n ≤ WORD) (hc : (i : ℕ) → getD cols i 0 < 2 ^ n) (j : ℕ) (hj : j < room) (e : Echelon) (b : Built room cols n j e) where
+module _ (room : ℕ) (cols : List ℕ) (n : ℕ) (hn : n ≤ WORD) (hc : (i : ℕ) → getD cols i 0 < 2 ^ n)
+    (j : ℕ) (hj : j < room) (e : Echelon) (b : Built room cols n j e) where
   built-grown : Built room cols n (suc j) (grown e j (getD cols j 0))
   unfolding grown rank
   built-grown = go (eqb r 0) refl
     where
       r : ℕ
-      r = rest (e .vectors) (e .pivots) (e .count) (getD cols j 0)
+      r = restOf e (getD cols j 0)
 
       t : ℕ
-      t = bitXor (2 ^ j) (used (e .vectors) (e .pivots) (e .tags) (e .count) (getD cols j 0))
+      t = bitXor (2 ^ j) (usedOf e (getD cols j 0))
 
       hr : r < 2 ^ n
       hr = rest-lt n (e .vectors) (e .pivots) (e .count) (getD cols j 0) (b .small) (hc j)
@@ -78,18 +79,19 @@ module _ (room : ℕ) (cols : List ℕ) (n : ℕ) (hn : n ≤ WORD) (hc : (i : �
       nw : getD (set (e .vectors) (e .count) r) (e .count) 0 ≡ r
       nw = put (e .vectors) r (b .long-ws)
 
-      nb : (r ≡ 0 → ⊥) → bit (getD (set (e .vectors) (e .count) r) (e .count) 0) (getD (set (e .pivots) (e .count) (trailingZeros WORD r)) (e .count) 0) ≡ 1
+      nb : (r ≡ 0 → ⊥)
+          → bit (getD (set (e .vectors) (e .count) r) (e .count) 0) (getD (set (e .pivots) (e .count) (trailingZeros WORD r)) (e .count) 0) ≡ 1
       nb f =
           ap₂ bit nw (put (e .pivots) (trailingZeros WORD r) (b .long-qs))
           ∙ lowest-on WORD r (⊎-elim (λ (z : r ≡ 0). absurd (f z)) (λ p. p) (eq-zero-or-pos r)) (lt-of-lt-of-le hr (pow-mono hn))
 
-      go : (x : Bool) → eqb r 0 ≡ x → Built room cols n (suc j) (choose x e (withEntry e r t))
+      go : (x : Bool) → eqb r 0 ≡ x → Built room cols n (suc j) (cond x e (withEntry e r t))
       go true q =
           let z : r ≡ 0 = eqb-true r 0 q in record {
             basis = skip cols j (e .vectors) (e .pivots) (e .tags) (e .count) (b .basis) z;
             pivots = b .pivots;
             small = b .small;
-            count = b .count ∙ sym (add-zero (rank cols j)) ∙ ap (λ (x : Bool). rank cols j + oneIf x) (sym (rest→unmarked cols j (e .vectors) (e .pivots) (e .tags) (e .count) (b .basis) z));
+            count = rw (rest→unmarked cols j (e .vectors) (e .pivots) (e .tags) (e .count) (b .basis) z) (b .count ∙ sym (add-zero (rank cols j)));
             few = omega (arith, b .few);
             long-ws = b .long-ws;
             long-qs = b .long-qs;
@@ -97,13 +99,17 @@ module _ (room : ℕ) (cols : List ℕ) (n : ℕ) (hn : n ≤ WORD) (hc : (i : �
           }
       go false q =
           let f : r ≡ 0 → ⊥ = eqb-false r 0 q in
+          let ws′ = set (e .vectors) (e .count) r in
+          let qs′ = set (e .pivots) (e .count) (trailingZeros WORD r) in
+          let ts′ = set (e .tags) (e .count) t in
           record {
-            basis = rw (add-one (e .count)) (insert cols j (e .vectors) (e .pivots) (e .tags) (e .count) (b .basis) (set (e .vectors) (e .count) r) (set (e .pivots) (e .count) (trailingZeros WORD r)) (set (e .tags) (e .count) t)
+            basis = rw (add-one (e .count)) (insert cols j (e .vectors) (e .pivots) (e .tags) (e .count) (b .basis) ws′ qs′ ts′
                 (kept (e .vectors) r) (kept (e .pivots) (trailingZeros WORD r)) (kept (e .tags) t) nw (nb f) (put (e .tags) t (b .long-ts)));
-            pivots = rw (add-one (e .count)) (pivots-insert (e .vectors) (e .pivots) (set (e .vectors) (e .count) r) (set (e .pivots) (e .count) (trailingZeros WORD r)) (e .count) (getD cols j 0) (b .pivots)
+            pivots = rw (add-one (e .count)) (pivots-insert (e .vectors) (e .pivots) ws′ qs′ (e .count) (getD cols j 0) (b .pivots)
                 (kept (e .vectors) r) (kept (e .pivots) (trailingZeros WORD r)) nw (nb f));
-            small = λ i h. below-suc (λ (i : ℕ). getD (set (e .vectors) (e .count) r) i 0 < 2 ^ n) (e .count) (λ i h. subst (λ (x : ℕ). x < 2 ^ n) (sym (kept (e .vectors) r i h)) (b .small i h)) (subst (λ (x : ℕ). x < 2 ^ n) (sym nw) hr) i (omega arith);
-            count = ap (λ (x : ℕ). x + 1) (b .count) ∙ ap (λ (x : Bool). rank cols j + oneIf x) (sym (rest→marked cols j (e .vectors) (e .pivots) (e .tags) (e .count) (b .basis) f));
+            small = λ i h. below-suc (λ (i : ℕ). getD ws′ i 0 < 2 ^ n) (e .count)
+                (λ i h. rw (kept (e .vectors) r i h) (b .small i h)) (rw nw hr) i (omega arith);
+            count = rw (rest→marked cols j (e .vectors) (e .pivots) (e .tags) (e .count) (b .basis) f) (ap (λ (x : ℕ). x + 1) (b .count));
             few = omega (arith, b .few);
             long-ws = length-set (e .vectors) (e .count) r ∙ b .long-ws;
             long-qs = length-set (e .pivots) (e .count) (trailingZeros WORD r) ∙ b .long-qs;
@@ -116,7 +122,7 @@ built-is room cols n hn hc zero hj = built-empty room cols n
 built-is room cols n hn hc (suc j) hj = built-grown room cols n hn hc j hj (built room cols j) (built-is room cols n hn hc j (le-trans (le-suc j) hj))
 
 -- ---- there are no more entries than columns
-choose-few : (x : Bool) (e : Echelon) (v t : ℕ) → choose x e (withEntry e v t) .count ≤ suc (e .count)
+choose-few : (x : Bool) (e : Echelon) (v t : ℕ) → cond x e (withEntry e v t) .count ≤ suc (e .count)
 choose-few true e v t = le-suc (e .count)
 choose-few false e v t = omega arith
 
@@ -125,8 +131,8 @@ unfolding built grown
 built-few room cols zero = zero-le
 built-few room cols (suc j) =
     let e = built room cols j in
-    let v = rest (e .vectors) (e .pivots) (e .count) (getD cols j 0) in
-    omega (arith, built-few room cols j, choose-few (eqb v 0) e v (bitXor (2 ^ j) (used (e .vectors) (e .pivots) (e .tags) (e .count) (getD cols j 0))))
+    let v = restOf e (getD cols j 0) in
+    omega (arith, built-few room cols j, choose-few (eqb v 0) e v (bitXor (2 ^ j) (usedOf e (getD cols j 0))))
 
 pub built-count : (room : ℕ) (cols : List ℕ) (j : ℕ) (e : Echelon) → e ≡ built room cols j → e .count ≤ j
 built-count room cols j e q = subst (λ (x : Echelon). x .count ≤ j) (sym q) (built-few room cols j)

@@ -1,28 +1,25 @@
 -- What are the columns of a matrix, and what matrix has given columns? Assumes nothing.
-use mathlib.Core.Path.{_∙_, _≡_, ap, ap₂, refl, sym}
+use mathlib.Core.Path.{_∙_, _≡_, ap, refl, subst, sym}
 use mathlib.Core.List.{List, [], _∷_, map}
-use Prim.Native.Nat.{_%_, _*_, _+_, _/_, _<_, _^_, _≤_, suc, zero, ℕ}
-use native.Mathlib.Nat.{add-zero, div-one, le-of-suc-le-suc, lt-of-lt-of-le, mod-eq-of-lt, mod-one, not-suc-le-zero, zero-add}
-use native.Mathlib.Numerals.{add-one}
+use Prim.Native.Nat.{_+_, _<_, _^_, _≤_, suc, zero, ℕ}
+use native.Mathlib.Nat.{add-zero, le-of-suc-le-suc, lt-of-lt-of-le, not-suc-le-zero, zero-add}
 use native.Mathlib.Omega.{arith}
-use lib.Pow.{mod-pow-add, pow-mono, pow-pos, shr-shr}
-use lib.ListN.{getD, length, length-map, take}
-use lib.Seq.{getD-take, length-take-le}
-use lib.Bits.{and-comm}
-use Rattle.algebra.proofs.Linear.{apply-lt, dot-comb, dot-unit}
-use Rattle.algebra.specs.Matrix.{apply, columns, identity, product}
-use Rattle.algebra.specs.Vector.{bit, comb, parity, units}
+use lib.Pow.{pow-mono}
+use lib.ListN.{drop, getD, length, length-map, List·getD-map, take}
+use lib.Bits.{and-comm, bitAnd}
+use Rattle.algebra.proofs.Digits.{bits-same}
+use Rattle.algebra.proofs.Linear.{apply-bit, apply-lt, apply-zero, dot-comb, dot-unit, listed-units}
+use Rattle.algebra.proofs.Listed.{listed-at, listed-length}
+use Rattle.algebra.specs.Matrix.{applied, columns, identity}
+use Rattle.algebra.specs.Vector.{bit, comb, parity, unitVectors}
 
--- ---- the columns of a matrix of at most k rows
-col-lt : (f : ℕ → ℕ) (k n j i : ℕ) → ((x : ℕ) → f x < 2 ^ k) → getD (map f (units n j)) i 0 < 2 ^ k
-unfolding units
-col-lt f k zero j i h = pow-pos k
-col-lt f k (suc n) j zero h = h (2 ^ j)
-col-lt f k (suc n) j (suc i) h = col-lt f k n (suc j) i h
-
+-- ---- a column of a matrix of at most n rows
 pub columns-lt : (n : ℕ) (rows : List ℕ) (i : ℕ) → length rows ≤ n → getD (columns n rows) i 0 < 2 ^ n
 unfolding columns
-columns-lt n rows i h = col-lt (apply rows) n n 0 i (λ x. lt-of-lt-of-le (apply-lt rows x) (pow-mono h))
+columns-lt n rows i h =
+    subst (λ (k : ℕ). k < 2 ^ n)
+    (sym (ap (getD (map (applied rows) (unitVectors n 0)) i) (sym (apply-zero rows)) ∙ List·getD-map (applied rows) (unitVectors n 0) i 0))
+    (lt-of-lt-of-le (apply-lt rows (getD (unitVectors n 0) i 0)) (pow-mono h))
 
 -- what stands at a place
 pub map-at : (f : ℕ → ℕ) (l : List ℕ) (i : ℕ) → i < length l → getD (map f l) i 0 ≡ f (getD l i 0)
@@ -30,53 +27,53 @@ map-at f [] i h = absurd (not-suc-le-zero h)
 map-at f (x ∷ l) zero h = refl
 map-at f (x ∷ l) (suc i) h = map-at f l i (le-of-suc-le-suc h)
 
-units-at : (n j i : ℕ) → i < n → getD (units n j) i 0 ≡ 2 ^ (j + i)
-unfolding units
-units-at zero j i h = absurd (not-suc-le-zero h)
-units-at (suc n) j zero h = ap (λ (k : ℕ). 2 ^ k) (sym (add-zero j))
-units-at (suc n) j (suc i) h = units-at n (suc j) i (le-of-suc-le-suc h) ∙ ap (λ (k : ℕ). 2 ^ k) (omega arith)
-
-units-length : (n j : ℕ) → length (units n j) ≡ n
-unfolding units
-units-length zero j = refl
-units-length (suc n) j = ap suc (units-length n (suc j))
-
-pub identity-at : (n i : ℕ) → i < n → getD (identity n) i 0 ≡ 2 ^ i
-unfolding identity
-identity-at n i h = units-at n 0 i h ∙ ap (λ (k : ℕ). 2 ^ k) (zero-add i)
+pub unitVectors-length : (n j : ℕ) → length (unitVectors n j) ≡ n
+unitVectors-length n j = ap length (sym (listed-units n j)) ∙ listed-length (λ i. 2 ^ i) n j
 
 pub identity-length : (n : ℕ) → length (identity n) ≡ n
 unfolding identity
-identity-length n = units-length n 0
+identity-length n = unitVectors-length n 0
 
-pub columns-at : (n : ℕ) (rows : List ℕ) (i : ℕ) → i < n → getD (columns n rows) i 0 ≡ apply rows (2 ^ i)
+pub identity-at : (n i : ℕ) → i < n → getD (identity n) i 0 ≡ 2 ^ i
+unfolding identity
+identity-at n i h =
+    ap (λ (l : List ℕ). getD l i 0) (sym (listed-units n 0)) ∙ listed-at 0 (λ j. 2 ^ j) n 0 i h ∙ ap (λ (k : ℕ). 2 ^ k) (zero-add i)
+
+pub map-unit : (f : ℕ → ℕ) (n i : ℕ) → i < n → getD (map f (unitVectors n 0)) i 0 ≡ f (2 ^ i)
+unfolding identity
+map-unit f n i h = map-at f (identity n) i (omega (arith, identity-length n)) ∙ ap f (identity-at n i h)
+
+pub columns-at : (n : ℕ) (rows : List ℕ) (i : ℕ) → i < n → getD (columns n rows) i 0 ≡ applied rows (2 ^ i)
 unfolding columns
-columns-at n rows i h = map-at (apply rows) (units n 0) i (omega (arith, units-length n 0)) ∙ ap (apply rows) (units-at n 0 i h ∙ ap (λ (k : ℕ). 2 ^ k) (zero-add i))
+columns-at n rows i h = map-unit (applied rows) n i h
 
 pub columns-length : (n : ℕ) (rows : List ℕ) → length (columns n rows) ≡ n
-unfolding columns
-columns-length n rows = length-map (units n 0) (apply rows) ∙ units-length n 0
+unfolding columns identity
+columns-length n rows = length-map (unitVectors n 0) (applied rows) ∙ identity-length n
 
--- ---- the rows of a product, of as many rows as are taken
-module _ (n : ℕ) (a b : List ℕ) (h : n ≤ length a) where
-  pub product-length : length (product (take n a) b) ≡ n
-  unfolding product
-  product-length = length-map (take n a) (comb b) ∙ length-take-le n a h
+-- ---- n rows send x to the number whose bits are their parities with x
+rows-give : (n : ℕ) (rows : List ℕ) (x v : ℕ) → length rows ≡ n → v < 2 ^ n
+    → ((i : ℕ) → i < n → parity (bitAnd (getD rows i 0) x) ≡ bit v i) → applied rows x ≡ v
+rows-give n rows x v l h f =
+    bits-same n (applied rows x) v (subst (λ (k : ℕ). applied rows x < 2 ^ k) l (apply-lt rows x)) h (λ i q. apply-bit rows x i ∙ f i q)
 
-  pub product-at : (i : ℕ) → i < n → getD (product (take n a) b) i 0 ≡ comb b (getD a i 0)
-  unfolding product
-  product-at i l = map-at (comb b) (take n a) i (omega (arith, length-take-le n a h)) ∙ ap (comb b) (getD-take n a i 0 l)
+pub apply-identity : (n x : ℕ) → x < 2 ^ n → applied (identity n) x ≡ x
+apply-identity n x h =
+    rows-give n (identity n) x x (identity-length n) h (λ i l. ap (λ (r : ℕ). parity (bitAnd r x)) (identity-at n i l) ∙ dot-unit i x)
 
--- ---- columns of a list of columns is the list of rows
-rows-from : (cols : List ℕ) (m j x : ℕ) → apply (map (apply cols) (units m j)) x ≡ comb cols x / 2 ^ j % 2 ^ m
-unfolding apply units bit
-rows-from cols zero j x = sym (mod-one (comb cols x / 2 ^ j))
-rows-from cols (suc m) j x =
-    ap₂ (λ (u v : ℕ). u * 2 + v) (rows-from cols m (suc j) x)
-    (ap parity (and-comm (apply cols (2 ^ j)) x) ∙ sym (dot-comb cols x (2 ^ j)) ∙ ap parity (and-comm (comb cols x) (2 ^ j)) ∙ dot-unit j (comb cols x))
-    ∙ ap (λ (u : ℕ). u % 2 ^ m * 2 + comb cols x / 2 ^ j % 2) (ap (λ (k : ℕ). comb cols x / 2 ^ k) (sym (add-one j)) ∙ sym (shr-shr (comb cols x) j 1))
-    ∙ sym (mod-pow-add (comb cols x / 2 ^ j) m 1) ∙ ap (λ (k : ℕ). comb cols x / 2 ^ j % 2 ^ k) (add-one m)
+-- the columns of a list of columns are the rows
+pub apply-transpose : (cols : List ℕ) (m x : ℕ) → comb cols x < 2 ^ m → applied (columns m cols) x ≡ comb cols x
+apply-transpose cols m x h =
+    rows-give m (columns m cols) x (comb cols x) (columns-length m cols) h
+    (λ i l. ap (λ (r : ℕ). parity (bitAnd r x)) (columns-at m cols i l) ∙ ap parity (and-comm (applied cols (2 ^ i)) x)
+    ∙ sym (dot-comb cols x (2 ^ i)) ∙ ap parity (and-comm (comb cols x) (2 ^ i)) ∙ dot-unit i (comb cols x))
 
-pub apply-transpose : (cols : List ℕ) (m x : ℕ) → comb cols x < 2 ^ m → apply (columns m cols) x ≡ comb cols x
-unfolding columns
-apply-transpose cols m x h = rows-from cols m 0 x ∙ ap (λ (k : ℕ). k % 2 ^ m) (div-one (comb cols x)) ∙ mod-eq-of-lt h
+-- ---- d of m unit vectors, from the b-th on
+pub part-units : (b d m j : ℕ) → b + d ≤ m → take d (drop b (unitVectors m j)) ≡ unitVectors d (j + b)
+unfolding unitVectors
+part-units zero zero m j h = refl
+part-units zero (suc d) zero j h = absurd (omega arith)
+part-units zero (suc d) (suc m) j h =
+    rw add-zero (ap (λ (l : List ℕ). 2 ^ j ∷ l) (part-units zero d m (suc j) (omega arith) ∙ ap (unitVectors d) (add-zero (suc j))))
+part-units (suc b) d zero j h = absurd (omega arith)
+part-units (suc b) d (suc m) j h = part-units b d m (suc j) (omega arith) ∙ ap (unitVectors d) (omega arith)

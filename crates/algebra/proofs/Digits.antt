@@ -1,19 +1,18 @@
 -- What are xor, and, parity on numbers, digit by digit? Assumes nothing.
 use mathlib.Core.Path.{_∙_, _≡_, ap, ap₂, refl, subst, sym}
 use Prim.Native.Nat.{_%_, _*_, _+_, _-_, _/_, _<_, _^_, _≤_, suc, suc-le-suc, zero, zero-le, ℕ}
-use native.Mathlib.Numerals.{one-add}
-use native.Mathlib.Nat.{add-mod-mod, div-add-mod', div-eq-of-lt, div-lt-iff-lt-mul, div-one, eq-or-lt-of-le, le-of-suc-le-suc, le-refl, lt-of-lt-of-le, mod-lt, not-suc-le-zero, one-mul, pow-suc, sub-add-cancel, zero-div, zero-lt-suc}
+use native.Mathlib.Numerals.{add-one, one-add}
+use native.Mathlib.Nat.{add-mod-mod, div-add-mod', div-eq-of-lt, div-one, le-of-suc-le-suc, le-refl}
+use native.Mathlib.Nat.{lt-of-lt-of-le, mod-lt, mul-le-mul-right, not-suc-le-zero, one-mul, pow-suc, sub-add-cancel, suc-mul, zero-div}
 use native.Mathlib.Omega.{arith}
-use lib.Arith.{bin-ind, digits-div, digits-mod, half-le, lt-one}
-use lib.Pow.{pow-lt, pow-mono, pow-pos, shl-lt, shl-shr, shr-lt, shr-shr, split}
+use lib.Arith.{bin-ind, digits-div, digits-mod, half-le, lt-of-le-ne, lt-one}
+use lib.Pow.{field, mod-mod-pow, pow-add, pow-lt, pow-mono, pow-pos, shl-lt, shl-shr, shr-lt, shr-shr, split}
 use lib.Bits.{and-comm, and-mod, and-shr, bitAnd, bitXor, shifted-even, shifted-half, xor-comm, xor-lt, xor-mod, xor-self, xor-shifted, xor-shr, xor-zero-r}
 use lib.Count.{ones, ones-step}
 use mathlib.Core.Logic.{_⊎_, inl, inr, ⊎-elim}
+use lib.Dec.{lit<}
 use Rattle.algebra.proofs.Search.{le-or-lt}
-use Rattle.algebra.specs.Vector.{bit, parity, times}
-
-two-pos : 0 < 2
-two-pos = zero-lt-suc 1
+use Rattle.algebra.specs.Vector.{bit, parity, unlessZero}
 
 -- a statement about a digit, from its two cases
 pub bit-cases : (P : ℕ → Type 0) → P 0 → P 1 → (x : ℕ) → x < 2 → P x
@@ -22,21 +21,21 @@ bit-cases P p q (suc zero) h = q
 bit-cases P p q (suc (suc x)) h = absurd (not-suc-le-zero (le-of-suc-le-suc (le-of-suc-le-suc h)))
 
 pub digit : (x : ℕ) → x % 2 < 2
-digit x = mod-lt x two-pos
+digit x = mod-lt x (lit< tt)
 
 pub half-lt : {a : ℕ} (k : ℕ) → a < 2 ^ suc k → a / 2 < 2 ^ k
-half-lt {a} k h = div-lt-iff-lt-mul two-pos .1 (subst (λ (x : ℕ). a < x) (pow-suc 2 k) h)
+half-lt k h = shr-lt k 1 (rw (add-one k) h)
 
 -- two numbers with the same half and the same lowest digit are equal
 pub bin-ext : (a b : ℕ) → a / 2 ≡ b / 2 → a % 2 ≡ b % 2 → a ≡ b
 bin-ext a b p q = sym (div-add-mod' a 2) ∙ ap₂ (λ (x y : ℕ). x * 2 + y) p q ∙ div-add-mod' b 2
 
 -- ---- an operation of three numbers that works digit by digit is known by what it does on digits
-pub record Digitwise (f : ℕ → ℕ → ℕ → ℕ) : Type 0 where
+record Digitwise (f : ℕ → ℕ → ℕ → ℕ) : Type 0 where
   pub half : (a b c : ℕ) → f a b c / 2 ≡ f (a / 2) (b / 2) (c / 2)
   pub odd : (a b c : ℕ) → f a b c % 2 ≡ f (a % 2) (b % 2) (c % 2)
 
-pub digitwise : (f g : ℕ → ℕ → ℕ → ℕ) → Digitwise f → Digitwise g
+digitwise : (f g : ℕ → ℕ → ℕ → ℕ) → Digitwise f → Digitwise g
     → ((x y z : ℕ) → x < 2 → y < 2 → z < 2 → f x y z ≡ g x y z) → (a b c : ℕ) → f a b c ≡ g a b c
 digitwise f g hf hg low a b c = go (a + b + c) a b c (omega arith) (omega arith) (omega arith)
   where
@@ -48,7 +47,7 @@ digitwise f g hf hg low a b c = go (a + b + c) a b c (omega arith) (omega arith)
         (hf .odd a b c ∙ low (a % 2) (b % 2) (c % 2) (digit a) (digit b) (digit c) ∙ sym (hg .odd a b c))
 
 -- on digits a law of three is eight computations
-pub on-digits : (P : ℕ → ℕ → ℕ → Type 0)
+on-digits : (P : ℕ → ℕ → ℕ → Type 0)
     → P 0 0 0 → P 0 0 1 → P 0 1 0 → P 0 1 1 → P 1 0 0 → P 1 0 1 → P 1 1 0 → P 1 1 1
     → (x y z : ℕ) → x < 2 → y < 2 → z < 2 → P x y z
 on-digits P a b c d e f g h x y z hx hy hz =
@@ -58,46 +57,34 @@ on-digits P a b c d e f g h x y z hx hy hz =
     x hx
 
 -- ---- xor
-pub xor-half : (a b : ℕ) → bitXor a b / 2 ≡ bitXor (a / 2) (b / 2)
-xor-half a b = xor-shr a b 1
-
-pub xor-odd : (a b : ℕ) → bitXor a b % 2 ≡ bitXor (a % 2) (b % 2)
-xor-odd a b = xor-mod a b 1
-
-and-half : (a b : ℕ) → bitAnd a b / 2 ≡ bitAnd (a / 2) (b / 2)
-and-half a b = and-shr a b 1
-
-and-odd : (a b : ℕ) → bitAnd a b % 2 ≡ bitAnd (a % 2) (b % 2)
-and-odd a b = and-mod a b 1
-
 pub xor-assoc : (a b c : ℕ) → bitXor (bitXor a b) c ≡ bitXor a (bitXor b c)
 xor-assoc =
     digitwise (λ a b c. bitXor (bitXor a b) c) (λ a b c. bitXor a (bitXor b c))
     (record {
-      half = λ a b c. xor-half (bitXor a b) c ∙ ap (λ (x : ℕ). bitXor x (c / 2)) (xor-half a b);
-      odd = λ a b c. xor-odd (bitXor a b) c ∙ ap (λ (x : ℕ). bitXor x (c % 2)) (xor-odd a b);
+      half = λ a b c. xor-shr (bitXor a b) c 1 ∙ ap (λ (x : ℕ). bitXor x (c / 2)) (xor-shr a b 1);
+      odd = λ a b c. xor-mod (bitXor a b) c 1 ∙ ap (λ (x : ℕ). bitXor x (c % 2)) (xor-mod a b 1);
     })
     (record {
-      half = λ a b c. xor-half a (bitXor b c) ∙ ap (bitXor (a / 2)) (xor-half b c);
-      odd = λ a b c. xor-odd a (bitXor b c) ∙ ap (bitXor (a % 2)) (xor-odd b c);
+      half = λ a b c. xor-shr a (bitXor b c) 1 ∙ ap (bitXor (a / 2)) (xor-shr b c 1);
+      odd = λ a b c. xor-mod a (bitXor b c) 1 ∙ ap (bitXor (a % 2)) (xor-mod b c 1);
     })
     (on-digits (λ a b c. bitXor (bitXor a b) c ≡ bitXor a (bitXor b c)) refl refl refl refl refl refl refl refl)
 
-pub and-xor : (a b c : ℕ) → bitAnd a (bitXor b c) ≡ bitXor (bitAnd a b) (bitAnd a c)
+and-xor : (a b c : ℕ) → bitAnd a (bitXor b c) ≡ bitXor (bitAnd a b) (bitAnd a c)
 and-xor =
     digitwise (λ a b c. bitAnd a (bitXor b c)) (λ a b c. bitXor (bitAnd a b) (bitAnd a c))
     (record {
-      half = λ a b c. and-half a (bitXor b c) ∙ ap (bitAnd (a / 2)) (xor-half b c);
-      odd = λ a b c. and-odd a (bitXor b c) ∙ ap (bitAnd (a % 2)) (xor-odd b c);
+      half = λ a b c. and-shr a (bitXor b c) 1 ∙ ap (bitAnd (a / 2)) (xor-shr b c 1);
+      odd = λ a b c. and-mod a (bitXor b c) 1 ∙ ap (bitAnd (a % 2)) (xor-mod b c 1);
     })
     (record {
-      half = λ a b c. xor-half (bitAnd a b) (bitAnd a c) ∙ ap₂ bitXor (and-half a b) (and-half a c);
-      odd = λ a b c. xor-odd (bitAnd a b) (bitAnd a c) ∙ ap₂ bitXor (and-odd a b) (and-odd a c);
+      half = λ a b c. xor-shr (bitAnd a b) (bitAnd a c) 1 ∙ ap₂ bitXor (and-shr a b 1) (and-shr a c 1);
+      odd = λ a b c. xor-mod (bitAnd a b) (bitAnd a c) 1 ∙ ap₂ bitXor (and-mod a b 1) (and-mod a c 1);
     })
     (on-digits (λ a b c. bitAnd a (bitXor b c) ≡ bitXor (bitAnd a b) (bitAnd a c)) refl refl refl refl refl refl refl refl)
 
 -- x xor (x xor y) is y
-pub xor-cancel : (x y : ℕ) → bitXor x (bitXor x y) ≡ y
+xor-cancel : (x y : ℕ) → bitXor x (bitXor x y) ≡ y
 xor-cancel x y = sym (xor-assoc x x y) ∙ ap (λ (k : ℕ). bitXor k y) (xor-self x)
 
 pub xor-cancel-r : (x y : ℕ) → bitXor (bitXor x y) y ≡ x
@@ -137,43 +124,33 @@ bit-suc x i = ap (λ (k : ℕ). k % 2) (ap (λ (k : ℕ). x / 2 ^ k) (sym (one-a
 
 pub bit-xor : (x y i : ℕ) → bit (bitXor x y) i ≡ bitXor (bit x i) (bit y i)
 unfolding bit
-bit-xor x y i = ap (λ (k : ℕ). k % 2) (xor-shr x y i) ∙ xor-odd (x / 2 ^ i) (y / 2 ^ i)
+bit-xor x y i = ap (λ (k : ℕ). k % 2) (xor-shr x y i) ∙ xor-mod (x / 2 ^ i) (y / 2 ^ i) 1
 
 -- ---- a digit times a vector
-pub times-zero : (d : ℕ) → times d 0 ≡ 0
-unfolding times
-times-zero zero = refl
-times-zero (suc d) = refl
+pub unless-zero : (d : ℕ) → unlessZero d 0 ≡ 0
+unfolding unlessZero
+unless-zero zero = refl
+unless-zero (suc d) = refl
 
-pub times-no : (d v : ℕ) → d ≡ 0 → times d v ≡ 0
-unfolding times
-times-no d v e = ap (λ (k : ℕ). times k v) e
+pub unless-no : (d v : ℕ) → d ≡ 0 → unlessZero d v ≡ 0
+unfolding unlessZero
+unless-no d v e = ap (λ (k : ℕ). unlessZero k v) e
 
-pub times-none : (v : ℕ) → times 0 v ≡ 0
-unfolding times
-times-none v = refl
+pub unless-xor : (d u v : ℕ) → unlessZero d (bitXor u v) ≡ bitXor (unlessZero d u) (unlessZero d v)
+unfolding unlessZero
+unless-xor zero u v = refl
+unless-xor (suc d) u v = refl
 
-pub times-xor : (d u v : ℕ) → times d (bitXor u v) ≡ bitXor (times d u) (times d v)
-unfolding times
-times-xor zero u v = refl
-times-xor (suc d) u v = refl
+pub unless-add : (d e v : ℕ) → d < 2 → e < 2 → unlessZero (bitXor d e) v ≡ bitXor (unlessZero d v) (unlessZero e v)
+unfolding unlessZero
+unless-add d e v hd he =
+    bit-cases (λ (d : ℕ). unlessZero (bitXor d e) v ≡ bitXor (unlessZero d v) (unlessZero e v)) refl
+    (bit-cases (λ (e : ℕ). unlessZero (bitXor 1 e) v ≡ bitXor v (unlessZero e v)) (sym (xor-zero-r v)) (sym (xor-self v)) e he) d hd
 
-pub times-add : (d e v : ℕ) → d < 2 → e < 2 → times (bitXor d e) v ≡ bitXor (times d v) (times e v)
-unfolding times
-times-add d e v hd he =
-    bit-cases (λ (d : ℕ). times (bitXor d e) v ≡ bitXor (times d v) (times e v)) refl
-    (bit-cases (λ (e : ℕ). times (bitXor 1 e) v ≡ bitXor v (times e v)) (sym (xor-zero-r v)) (sym (xor-self v)) e he) d hd
-
-pub times-lt : (k d v : ℕ) → v < 2 ^ k → times d v < 2 ^ k
-unfolding times
-times-lt k zero v h = pow-pos k
-times-lt k (suc d) v h = h
-
--- the digit AND another digit
-pub and-times : (d e : ℕ) → d < 2 → e < 2 → bitAnd d e ≡ times d e
-unfolding times
-and-times d e hd he =
-    bit-cases (λ (d : ℕ). bitAnd d e ≡ times d e) refl (bit-cases (λ (e : ℕ). bitAnd 1 e ≡ e) refl refl e he) d hd
+pub unless-lt : (k d v : ℕ) → v < 2 ^ k → unlessZero d v < 2 ^ k
+unfolding unlessZero
+unless-lt k zero v h = pow-pos k
+unless-lt k (suc d) v h = h
 
 -- ---- parity
 pub parity-lt : (x : ℕ) → parity x < 2
@@ -184,7 +161,7 @@ pub parity-zero : parity 0 ≡ 0
 unfolding parity ones
 parity-zero = refl
 
-pub parity-step : (x : ℕ) → parity x ≡ bitXor (x % 2) (parity (x / 2))
+parity-step : (x : ℕ) → parity x ≡ bitXor (x % 2) (parity (x / 2))
 unfolding parity
 parity-step x =
     ap (λ (k : ℕ). k % 2) (ones-step x) ∙ sym (add-mod-mod (x % 2) (ones (x / 2)) 2)
@@ -199,12 +176,12 @@ pub parity-bit : (d : ℕ) → d < 2 → parity d ≡ d
 unfolding parity ones
 parity-bit = bit-cases (λ (d : ℕ). parity d ≡ d) refl refl
 
-pub parity-xor : (a b : ℕ) → parity (bitXor a b) ≡ bitXor (parity a) (parity b)
+parity-xor : (a b : ℕ) → parity (bitXor a b) ≡ bitXor (parity a) (parity b)
 parity-xor a =
     bin-ind (λ (n : ℕ). (b : ℕ) → parity (bitXor n b) ≡ bitXor (parity n) (parity b))
     (λ b. ap (λ (k : ℕ). bitXor k (parity b)) (sym parity-zero))
     (λ n ih b.
-    parity-step (bitXor n b) ∙ ap₂ (λ (x y : ℕ). bitXor x (parity y)) (xor-odd n b) (xor-half n b)
+    parity-step (bitXor n b) ∙ ap₂ (λ (x y : ℕ). bitXor x (parity y)) (xor-mod n b 1) (xor-shr n b 1)
     ∙ ap (bitXor (bitXor (n % 2) (b % 2))) (ih (b / 2))
     ∙ xor4 (n % 2) (b % 2) (parity (n / 2)) (parity (b / 2))
     ∙ sym (ap₂ bitXor (parity-step n) (parity-step b)))
@@ -219,14 +196,14 @@ dot-xor-l r s x =
     ap parity (and-comm (bitXor r s) x) ∙ dot-xor x r s
     ∙ ap₂ (λ (u v : ℕ). bitXor (parity u) (parity v)) (and-comm x r) (and-comm x s)
 
-pub bit-times : (d w q : ℕ) → bit (times d w) q ≡ times d (bit w q)
-unfolding times
-bit-times zero w q = bit-zero q
-bit-times (suc d) w q = refl
+pub bit-unless : (d w q : ℕ) → bit (unlessZero d w) q ≡ unlessZero d (bit w q)
+unfolding unlessZero
+bit-unless zero w q = bit-zero q
+bit-unless (suc d) w q = refl
 
-pub times-one : (d : ℕ) → d < 2 → times d 1 ≡ d
-unfolding times
-times-one = bit-cases (λ (d : ℕ). times d 1 ≡ d) refl refl
+pub unless-one : (d : ℕ) → d < 2 → unlessZero d 1 ≡ d
+unfolding unlessZero
+unless-one = bit-cases (λ (d : ℕ). unlessZero d 1 ≡ d) refl refl
 
 -- no bit above the top
 pub bit-above : (x m i : ℕ) → x < 2 ^ m → m ≤ i → bit x i ≡ 0
@@ -235,7 +212,7 @@ bit-above x m i h l = ap (λ (k : ℕ). k % 2) (div-eq-of-lt (lt-of-lt-of-le h (
 
 -- a set bit of a number below 2 ^ n stands below n
 pub bit-place : (n x i : ℕ) → x < 2 ^ n → bit x i ≡ 1 → i < n
-bit-place n x i h e = ⊎-elim (λ (l : n ≤ i). absurd (let z : _≡_ {A = ℕ} 0 1 = sym (bit-above x n i h l) ∙ e in omega arith)) (λ l. l) (le-or-lt n i)
+bit-place n x i h e = ⊎-elim (λ (l : n ≤ i). absurd (omega (arith, sym (bit-above x n i h l) ∙ e))) (λ l. l) (le-or-lt n i)
 
 -- a number with no bit set is zero
 pub bits-zero : (n x : ℕ) → x < 2 ^ n → ((i : ℕ) → i < n → bit x i ≡ 0) → x ≡ 0
@@ -246,7 +223,9 @@ bits-zero (suc n) x h f =
 
 -- ---- numbers with the same bits
 pub bits-same : (n x y : ℕ) → x < 2 ^ n → y < 2 ^ n → ((i : ℕ) → i < n → bit x i ≡ bit y i) → x ≡ y
-bits-same n x y hx hy e = xor-eq x y (bits-zero n (bitXor x y) (xor-lt n x y hx hy) (λ i l. bit-xor x y i ∙ ap (λ (k : ℕ). bitXor k (bit y i)) (e i l) ∙ xor-self (bit y i)))
+bits-same n x y hx hy e =
+    xor-eq x y (bits-zero n (bitXor x y) (xor-lt n x y hx hy)
+    (λ i l. bit-xor x y i ∙ ap (λ (k : ℕ). bitXor k (bit y i)) (e i l) ∙ xor-self (bit y i)))
 
 -- ---- shifted numbers
 pub bit-shifted : (t m i : ℕ) → i < m → bit (t * 2 ^ m) i ≡ 0
@@ -286,13 +265,12 @@ pub bit-pow : (j : ℕ) → bit (2 ^ j) j ≡ 1
 unfolding bit
 bit-pow j = ap (λ (k : ℕ). k % 2) (ap (λ (k : ℕ). k / 2 ^ j) (sym (one-mul (2 ^ j))) ∙ shl-shr 1 j)
 
-pub bit-pow-low : (j i : ℕ) → i < j → bit (2 ^ j) i ≡ 0
+bit-pow-low : (j i : ℕ) → i < j → bit (2 ^ j) i ≡ 0
 bit-pow-low j i h = ap (λ (k : ℕ). bit k i) (sym (one-mul (2 ^ j))) ∙ bit-shifted 1 j i h
 
 pub bit-pow-other : (j i : ℕ) → (i ≡ j → ⊥) → bit (2 ^ j) i ≡ 0
 bit-pow-other j i f =
-    ⊎-elim (λ (l : i < j). bit-pow-low j i l) (λ (l : j < i). bit-above (2 ^ j) (suc j) i (pow-lt (le-refl (suc j))) l)
-    (⊎-elim (λ (l : i ≤ j). ⊎-elim (λ (e : i ≡ j). absurd (f e)) (λ (l : i < j). inl l) (eq-or-lt-of-le l)) (λ (l : j < i). inr l) (le-or-lt i j))
+    ⊎-elim (λ (l : j ≤ i). bit-above (2 ^ j) (suc j) i (pow-lt (le-refl (suc j))) (lt-of-le-ne l (λ e. f (sym e)))) (bit-pow-low j i) (le-or-lt j i)
 
 -- 2 ^ j over a smaller number
 pub top-bit : (j s : ℕ) → s < 2 ^ j → bit (bitXor (2 ^ j) s) j ≡ 1
@@ -305,3 +283,31 @@ under-bit j s i h = bit-xor (2 ^ j) s i ∙ ap (λ (k : ℕ). bitXor k (bit s i)
 pub parts-xor : (m x : ℕ) → bitXor (x % 2 ^ m) (x / 2 ^ m * 2 ^ m) ≡ x
 parts-xor m x =
     xor-comm (x % 2 ^ m) (x / 2 ^ m * 2 ^ m) ∙ xor-shifted (x / 2 ^ m) m (x % 2 ^ m) (mod-lt x (pow-pos m)) ∙ split x m
+
+-- two summands change places
+pub xor-swap : (x y z : ℕ) → bitXor (bitXor x y) z ≡ bitXor (bitXor x z) y
+xor-swap x y z = xor-assoc x y z ∙ ap (bitXor x) (xor-comm y z) ∙ sym (xor-assoc x z y)
+
+-- ---- a number taken apart
+
+-- one of n shares of k
+pub share : (t n k : ℕ) → t < n → t * k + k ≤ n * k
+share t n k h = omega (arith, suc-mul t k, mul-le-mul-right k h)
+
+module _ (b m : ℕ) (hb : b ≤ m) where
+  pub pow-split : 2 ^ m ≡ 2 ^ (m - b) * 2 ^ b
+  pow-split = ap (λ (k : ℕ). 2 ^ k) (omega arith) ∙ pow-add 2 (m - b) b
+
+  -- bits b..m-1
+  pub bits-mid : (v : ℕ) → v % 2 ^ m / 2 ^ b ≡ v / 2 ^ b % 2 ^ (m - b)
+  bits-mid v = ap (λ (k : ℕ). v % 2 ^ k / 2 ^ b) (omega arith) ∙ field v (m - b) b
+
+  -- the bits from b on are those from m on and those below m
+  pub bits-from : (v : ℕ) → v / 2 ^ b ≡ v / 2 ^ m * 2 ^ (m - b) + v % 2 ^ m / 2 ^ b
+  bits-from v =
+      sym (div-add-mod' (v / 2 ^ b) (2 ^ (m - b)))
+      ∙ ap₂ (λ (x y : ℕ). x * 2 ^ (m - b) + y) (shr-shr v b (m - b) ∙ ap (λ (k : ℕ). v / 2 ^ k) (omega arith)) (sym (bits-mid v))
+
+  -- the bits below b
+  pub bits-below : (v : ℕ) → v % 2 ^ m % 2 ^ b ≡ v % 2 ^ b
+  bits-below v = ap (λ (k : ℕ). v % 2 ^ k % 2 ^ b) (omega arith) ∙ mod-mod-pow v (m - b) b

@@ -6,7 +6,8 @@ use native.Mathlib.Nat.{le-of-suc-le-suc, not-suc-le-zero}
 use native.Mathlib.Omega.{arith}
 use borrow.Author.Count.{below-more}
 use lib.ListN.{List·getD-append, drop, getD, length, length-drop, replicate, set, take}
-use lib.Seq.{ext-getD, getD-append-add, getD-drop, getD-set-other, getD-set-same, getD-take, length-paste-head, length-take-le, paste}
+use lib.Seq.{drop-append-seam, drop-at, ext-getD, getD-append-add, getD-drop, getD-set-other, getD-set-same, getD-take, length-paste-head}
+use lib.Seq.{length-take-le, paste, take-append-seam, take-at}
 
 -- ---- what holds of every element
 module _ {A : Type 0} where
@@ -79,8 +80,8 @@ module _ (d s : List ℕ) (at n : ℕ) (room : at + n ≤ length d) (long : n �
       ∙ List·getD-append (take at d) (take n s) 0 q (omega arith)
       ∙ getD-take at d q 0 h
 
-  pub paste-within : (i : ℕ) → i < n → getD (paste d at s n) (at + i) 0 ≡ getD s i 0
-  paste-within i h =
+  pub paste-in : (i : ℕ) → i < n → getD (paste d at s n) (at + i) 0 ≡ getD s i 0
+  paste-in i h =
       let front : length (take at d) ≡ at = length-take-le at d (omega arith) in
       List·getD-append (take at d ++ take n s) (drop (at + n) d) 0 (at + i) (omega (arith, length-paste-head d at s n (omega arith) long))
       ∙ ap (λ (k : ℕ). getD (take at d ++ take n s) (k + i) 0) (sym front)
@@ -96,3 +97,25 @@ module _ (d s : List ℕ) (at n : ℕ) (room : at + n ≤ length d) (long : n �
       ∙ getD-append-add (take at d ++ take n s) (drop (at + n) d) (q - (at + n)) 0
       ∙ getD-drop (at + n) d (q - (at + n)) 0
       ∙ ap (λ (k : ℕ). getD d k 0) f
+
+-- ---- one list in two parts, the first as long as the other's: the parts are the same
+pub same-parts : (a b x y : List ℕ) → length a ≡ length b → a ++ x ≡ b ++ y → (a ≡ b) × (x ≡ y)
+same-parts a b x y h e = (
+  sym (take-at a x (length b) h) ∙ ap (take (length b)) e ∙ take-append-seam b y,
+  sym (drop-at a x (length b) h) ∙ ap (drop (length b)) e ∙ drop-append-seam b y,
+)
+
+-- what is below all of a list, or above, isn't in it
+pub off-above : (x b : ℕ) (l : List ℕ) → x < b → All (λ z. b ≤ z) l → All (λ z. x ≡ z → ⊥) l
+off-above x b l h = all-mono (λ z. b ≤ z) (λ z. x ≡ z → ⊥) (λ z p e. omega arith) l
+
+pub off-below : (x b : ℕ) (l : List ℕ) → b ≤ x → All (λ z. z < b) l → All (λ z. x ≡ z → ⊥) l
+off-below x b l h = all-mono (λ z. z < b) (λ z. x ≡ z → ⊥) (λ z p e. omega arith) l
+
+-- ---- a part of a mapped list, with anything after it
+pub part-map : (f : ℕ → ℕ) (b d : ℕ) (l z : List ℕ) → b + d ≤ length l → take d (drop b (map f l ++ z)) ≡ map f (take d (drop b l))
+part-map f zero zero l z h = refl
+part-map f zero (suc d) [] z h = absurd (omega arith)
+part-map f zero (suc d) (x ∷ l) z h = ap (λ (k : List ℕ). f x ∷ k) (part-map f zero d l z (omega arith))
+part-map f (suc b) d [] z h = absurd (omega arith)
+part-map f (suc b) d (x ∷ l) z h = part-map f b d l z (omega arith)

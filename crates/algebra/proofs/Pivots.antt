@@ -8,29 +8,30 @@ use lib.Pow.{pow-lt, pow-mono}
 use lib.ListN.{getD}
 use lib.Bits.{bitXor, xor-lt, xor-self}
 use Rattle.algebra.proofs.Basis.{Basis, rest-rest, rest-same, solved, used-below}
-use Rattle.algebra.proofs.Digits.{bit-lt, bit-times, bit-xor, bit-zero, times-lt, times-one, times-zero, xor-cancel-r}
+use Rattle.algebra.proofs.Digits.{bit-lt, bit-unless, bit-xor, bit-zero, unless-lt, unless-one, unless-zero, xor-cancel-r}
 use Rattle.algebra.proofs.Linear.{comb-one, comb-xor}
 use Rattle.algebra.proofs.Search.{below-suc}
 use Rattle.algebra.specs.Elimination.{rest, used}
-use Rattle.algebra.specs.Vector.{bit, comb, times}
+use Rattle.algebra.specs.Vector.{bit, comb, unlessZero}
 
 module _ (cols : List ℕ) (j : ℕ) (ws qs ts : List ℕ) (k : ℕ) (b : Basis cols j ws qs ts k)
     (ws′ qs′ ts′ : List ℕ)
-    (hw : (i : ℕ) → i < k → getD ws′ i 0 ≡ getD ws i 0) (hq : (i : ℕ) → i < k → getD qs′ i 0 ≡ getD qs i 0) (ht : (i : ℕ) → i < k → getD ts′ i 0 ≡ getD ts i 0)
+    (hw : (i : ℕ) → i < k → getD ws′ i 0 ≡ getD ws i 0) (hq : (i : ℕ) → i < k → getD qs′ i 0 ≡ getD qs i 0)
+    (ht : (i : ℕ) → i < k → getD ts′ i 0 ≡ getD ts i 0)
     (nw : getD ws′ k 0 ≡ rest ws qs k (getD cols j 0))
     (nq : bit (getD ws′ k 0) (getD qs′ k 0) ≡ 1)
     (nt : getD ts′ k 0 ≡ bitXor (2 ^ j) (used ws qs ts k (getD cols j 0))) where
   old : (x : ℕ) → rest ws qs k x ≡ 0 → rest ws′ qs′ (suc k) x ≡ 0
-  unfolding rest times
+  unfolding rest unlessZero
   old x e =
-      ap (λ (u : ℕ). bitXor u (times (bit u (getD qs′ k 0)) (getD ws′ k 0))) (rest-same ws qs ws′ qs′ k x hw hq ∙ e)
-      ∙ ap (λ (d : ℕ). times d (getD ws′ k 0)) (bit-zero (getD qs′ k 0))
+      ap (λ (u : ℕ). bitXor u (unlessZero (bit u (getD qs′ k 0)) (getD ws′ k 0))) (rest-same ws qs ws′ qs′ k x hw hq ∙ e)
+      ∙ ap (λ (d : ℕ). unlessZero d (getD ws′ k 0)) (bit-zero (getD qs′ k 0))
 
   new : (x : ℕ) → rest ws qs k x ≡ getD ws′ k 0 → rest ws′ qs′ (suc k) x ≡ 0
-  unfolding rest times
+  unfolding rest unlessZero
   new x e =
-      ap (λ (u : ℕ). bitXor u (times (bit u (getD qs′ k 0)) (getD ws′ k 0))) (rest-same ws qs ws′ qs′ k x hw hq ∙ e)
-      ∙ ap (λ (d : ℕ). bitXor (getD ws′ k 0) (times d (getD ws′ k 0))) nq ∙ xor-self (getD ws′ k 0)
+      ap (λ (u : ℕ). bitXor u (unlessZero (bit u (getD qs′ k 0)) (getD ws′ k 0))) (rest-same ws qs ws′ qs′ k x hw hq ∙ e)
+      ∙ ap (λ (d : ℕ). bitXor (getD ws′ k 0) (unlessZero d (getD ws′ k 0))) nq ∙ xor-self (getD ws′ k 0)
 
   pub insert : Basis cols (suc j) ws′ qs′ ts′ (suc k)
   insert = record {
@@ -66,10 +67,13 @@ rest-off ws qs (suc k) p v =
     let u = rest ws qs k v in
     let w = getD ws k 0 in
     let d = bit u (getD qs k 0) in
-    let at : (q : ℕ) → bit (bitXor u (times d w)) q ≡ bitXor (bit u q) (times d (bit w q)) = λ q. bit-xor u (times d w) q ∙ ap (bitXor (bit u q)) (bit-times d w q) in
-    below-suc (λ (i : ℕ). bit (bitXor u (times d w)) (getD qs i 0) ≡ 0) k
-    (λ i h. at (getD qs i 0) ∙ ap₂ (λ (x y : ℕ). bitXor x (times d y)) (rest-off ws qs k (fewer k p) v i h) (p .off k i (le-refl (suc k)) h) ∙ times-zero d)
-    (at (getD qs k 0) ∙ ap (λ (x : ℕ). bitXor d (times d x)) (p .on k (le-refl (suc k))) ∙ ap (bitXor d) (times-one d (bit-lt u (getD qs k 0))) ∙ xor-self d)
+    let at : (q : ℕ) → bit (bitXor u (unlessZero d w)) q ≡ bitXor (bit u q) (unlessZero d (bit w q)) =
+    λ q. bit-xor u (unlessZero d w) q ∙ ap (bitXor (bit u q)) (bit-unless d w q) in
+    below-suc (λ (i : ℕ). bit (bitXor u (unlessZero d w)) (getD qs i 0) ≡ 0) k
+    (λ i h. at (getD qs i 0)
+    ∙ ap₂ (λ (x y : ℕ). bitXor x (unlessZero d y)) (rest-off ws qs k (fewer k p) v i h) (p .off k i (le-refl (suc k)) h) ∙ unless-zero d)
+    (at (getD qs k 0) ∙ ap (λ (x : ℕ). bitXor d (unlessZero d x)) (p .on k (le-refl (suc k)))
+    ∙ ap (bitXor d) (unless-one d (bit-lt u (getD qs k 0))) ∙ xor-self d)
 
 pub pivots-insert : (ws qs ws′ qs′ : List ℕ) (k v : ℕ) → Pivots ws qs k
     → ((i : ℕ) → i < k → getD ws′ i 0 ≡ getD ws i 0) → ((i : ℕ) → i < k → getD qs′ i 0 ≡ getD qs i 0)
@@ -90,5 +94,5 @@ pub rest-lt : (n : ℕ) (ws qs : List ℕ) (k v : ℕ) → ((i : ℕ) → i < k 
 unfolding rest
 rest-lt n ws qs zero v h hv = hv
 rest-lt n ws qs (suc k) v h hv =
-    xor-lt n (rest ws qs k v) (times (bit (rest ws qs k v) (getD qs k 0)) (getD ws k 0)) (rest-lt n ws qs k v (λ i p. h i (le-trans p (le-suc k))) hv)
-    (times-lt n (bit (rest ws qs k v) (getD qs k 0)) (getD ws k 0) (h k (le-refl (suc k))))
+    xor-lt n (rest ws qs k v) (unlessZero (bit (rest ws qs k v) (getD qs k 0)) (getD ws k 0)) (rest-lt n ws qs k v (λ i p. h i (le-trans p (le-suc k))) hv)
+    (unless-lt n (bit (rest ws qs k v) (getD qs k 0)) (getD ws k 0) (h k (le-refl (suc k))))

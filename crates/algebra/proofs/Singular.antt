@@ -10,20 +10,21 @@ use lib.Pow.{pow-pos}
 use lib.Dec.{eqb, ltb}
 use lib.Bits.{bitXor, xor-lt, xor-self}
 use borrow.Author.Tests.{eq-eqb, eqb-true, lt-ltb, ltb-true, ne-eqb}
+use Rattle.algebra.proofs.Columns.{apply-identity}
 use Rattle.algebra.proofs.Digits.{xor-cancel-r, xor-eq}
-use Rattle.algebra.proofs.Linear.{apply-identity, apply-xor, apply-zero}
-use Rattle.algebra.proofs.Search.{and-l, and-r, least-holds, least-is, none-elim, none-intro, some-elim, some-intro}
-use Rattle.algebra.specs.Matrix.{apply, identity, kills, singular, source, target}
+use Rattle.algebra.proofs.Linear.{apply-xor, apply-zero}
+use Rattle.algebra.proofs.Search.{and-l, and-r, least-holds, least-is, none-elim, none-intro, any-elim, any-intro}
+use Rattle.algebra.specs.Matrix.{applied, identity, kills, singular, source, target}
 
-pub kills-intro : (rows : List ℕ) (z : ℕ) → 0 < z → apply rows z ≡ 0 → kills rows z ≡ true
+pub kills-intro : (rows : List ℕ) (z : ℕ) → 0 < z → applied rows z ≡ 0 → kills rows z ≡ true
 unfolding kills
-kills-intro rows z p e = ap₂ _&&_ (lt-ltb 0 z p) (eq-eqb (apply rows z) 0 e)
+kills-intro rows z p e = ap₂ _&&_ (lt-ltb 0 z p) (eq-eqb (applied rows z) 0 e)
 
-pub kills-elim : (rows : List ℕ) (z : ℕ) → kills rows z ≡ true → (0 < z) × (apply rows z ≡ 0)
+pub kills-elim : (rows : List ℕ) (z : ℕ) → kills rows z ≡ true → (0 < z) × (applied rows z ≡ 0)
 unfolding kills
 kills-elim rows z e = (
-  ltb-true 0 z (and-l (ltb 0 z) (eqb (apply rows z) 0) e),
-  eqb-true (apply rows z) 0 (and-r (ltb 0 z) (eqb (apply rows z) 0) e),
+  ltb-true 0 z (and-l (ltb 0 z) (eqb (applied rows z) 0) e),
+  eqb-true (applied rows z) 0 (and-r (ltb 0 z) (eqb (applied rows z) 0) e),
 )
 
 -- two different addresses below 2 ^ n with one target
@@ -35,18 +36,18 @@ pub record Clash (n : ℕ) (rows : List ℕ) (c : ℕ) : Type 0 where
   pub apart : x ≡ y → ⊥
   pub same : target rows c x ≡ target rows c y
 
-pub target-inj : (rows : List ℕ) (c x y : ℕ) → target rows c x ≡ target rows c y → apply rows (bitXor x y) ≡ 0
+target-inj : (rows : List ℕ) (c x y : ℕ) → target rows c x ≡ target rows c y → applied rows (bitXor x y) ≡ 0
 unfolding target
 target-inj rows c x y e =
     apply-xor rows x y
-    ∙ ap (λ (k : ℕ). bitXor k (apply rows y))
-    (sym (xor-cancel-r (apply rows x) c) ∙ ap (λ (k : ℕ). bitXor k c) e ∙ xor-cancel-r (apply rows y) c)
-    ∙ xor-self (apply rows y)
+    ∙ ap (λ (k : ℕ). bitXor k (applied rows y))
+    (sym (xor-cancel-r (applied rows x) c) ∙ ap (λ (k : ℕ). bitXor k c) e ∙ xor-cancel-r (applied rows y) c)
+    ∙ xor-self (applied rows y)
 
 pub clash→singular : (n : ℕ) (rows : List ℕ) (c : ℕ) → Clash n rows c → singular n rows ≡ true
 unfolding singular
 clash→singular n rows c h =
-    some-intro (kills rows) (2 ^ n) (bitXor (h .x) (h .y)) (xor-lt n (h .x) (h .y) (h .x-lt) (h .y-lt))
+    any-intro (kills rows) (2 ^ n) (bitXor (h .x) (h .y)) (xor-lt n (h .x) (h .y) (h .x-lt) (h .y-lt))
     (kills-intro rows (bitXor (h .x) (h .y))
     (⊎-elim (λ (e : bitXor (h .x) (h .y) ≡ 0). absurd (h .apart (xor-eq (h .x) (h .y) e))) (λ p. p) (eq-zero-or-pos (bitXor (h .x) (h .y))))
     (target-inj rows c (h .x) (h .y) (h .same)))
@@ -54,7 +55,7 @@ clash→singular n rows c h =
 pub singular→clash : (n : ℕ) (rows : List ℕ) (c : ℕ) → singular n rows ≡ true → Clash n rows c
 unfolding singular target
 singular→clash n rows c e =
-    let f = some-elim (kills rows) (2 ^ n) e in
+    let f = any-elim (kills rows) (2 ^ n) e in
     let k = kills-elim rows (f .0) (f .2) in
     record {
       x = f .0;
@@ -65,22 +66,26 @@ singular→clash n rows c e =
       same = ap (λ (u : ℕ). bitXor u c) (k .1 ∙ sym (apply-zero rows));
     }
 
--- the identity sends only zero to zero
-pub identity-regular : (n : ℕ) → singular n (identity n) ≡ false
+-- a matrix is regular where it sends only zero to zero, as the identity does
+pub regular-intro : (n : ℕ) (rows : List ℕ) → ((z : ℕ) → z < 2 ^ n → applied rows z ≡ 0 → z ≡ 0) → singular n rows ≡ false
 unfolding singular
-identity-regular n = none-intro (kills (identity n)) (2 ^ n) (λ z h. go z h (kills (identity n) z) refl)
+regular-intro n rows f = none-intro (kills rows) (2 ^ n) (λ z h. go z h (kills rows z) refl)
   where
-    go : (z : ℕ) → z < 2 ^ n → (b : Bool) → kills (identity n) z ≡ b → b ≡ false
-    go z h true e = let k = kills-elim (identity n) z e in absurd (omega (arith, k .0, sym (apply-identity n z h) ∙ k .1))
+    go : (z : ℕ) → z < 2 ^ n → (b : Bool) → kills rows z ≡ b → b ≡ false
+    go z h true e = let k = kills-elim rows z e in absurd (omega (arith, k .0, f z h (k .1)))
     go z h false e = refl
 
+pub identity-regular : (n : ℕ) → singular n (identity n) ≡ false
+identity-regular n = regular-intro n (identity n) (λ z h e. sym (apply-identity n z h) ∙ e)
+
 -- in a matrix that is not singular only zero is sent to zero, and a target has one source
-pub regular-zero : (n : ℕ) (rows : List ℕ) (z : ℕ) → singular n rows ≡ false → z < 2 ^ n → apply rows z ≡ 0 → z ≡ 0
+pub regular-zero : (n : ℕ) (rows : List ℕ) (z : ℕ) → singular n rows ≡ false → z < 2 ^ n → applied rows z ≡ 0 → z ≡ 0
 unfolding singular
 regular-zero n rows z s h e =
     ⊎-elim (λ q. q) (λ (p : 0 < z). absurd (true≢false (sym (kills-intro rows z p e) ∙ none-elim (kills rows) (2 ^ n) z s h))) (eq-zero-or-pos z)
 
-pub regular-inj : (n : ℕ) (rows : List ℕ) (c x y : ℕ) → singular n rows ≡ false → x < 2 ^ n → y < 2 ^ n → target rows c x ≡ target rows c y → x ≡ y
+pub regular-inj : (n : ℕ) (rows : List ℕ) (c x y : ℕ) → singular n rows ≡ false → x < 2 ^ n → y < 2 ^ n
+    → target rows c x ≡ target rows c y → x ≡ y
 regular-inj n rows c x y s hx hy e = xor-eq x y (regular-zero n rows (bitXor x y) s (xor-lt n x y hx hy) (target-inj rows c x y e))
 
 pub source-target : (n : ℕ) (rows : List ℕ) (c x : ℕ) → singular n rows ≡ false → x < 2 ^ n → source n rows c (target rows c x) ≡ x

@@ -5,48 +5,49 @@ use Prim.Native.Nat.{ℕ, zero, suc, _+_, _-_, _*_, _^_}
 use lib.Bits.{bitAnd, bitXor}
 use lib.Dec.{eqb, ltb}
 use lib.ListN.{getD, take, drop}
-use Rattle.algebra.specs.Search.{least, some}
-use Rattle.algebra.specs.Vector.{parity, comb, units}
+use Rattle.algebra.specs.Search.{least, anyBelow}
+use Rattle.algebra.specs.Vector.{parity, comb, unitVectors}
 
 -- Ax: bit i is the parity of row i AND x
-unfoldable pub apply : List ℕ → ℕ → ℕ
-apply [] x = 0
-apply (r ∷ rs) x = apply rs x * 2 + parity (bitAnd r x)
+unfoldable pub applied : List ℕ → ℕ → ℕ
+applied [] x = 0
+applied (r ∷ rs) x = applied rs x * 2 + parity (bitAnd r x)
 
 -- where A and c send address x: Ax xor c
 unfoldable pub target : List ℕ → ℕ → ℕ → ℕ
-target rows c x = bitXor (apply rows x) c
+target rows c x = bitXor (applied rows x) c
 
--- AB: row i is the sum of the rows of B that row i of A picks
-unfoldable pub product : List ℕ → List ℕ → List ℕ
-product a b = map (comb b) a
+-- the sums of the vectors of a that each set in q picks. Of lists of columns it is the product AQ: column j is the sum of
+-- the columns of A that column j of Q picks. Of lists of rows it is QA: row i is the sum of the rows of A that row i of Q picks
+unfoldable pub after : List ℕ → List ℕ → List ℕ
+after a q = map (comb a) q
 
 -- the identity of n rows
 unfoldable pub identity : ℕ → List ℕ
-identity n = units n 0
+identity n = unitVectors n 0
 
 -- the n columns of A: column j is A applied to 2 ^ j, and so the sum of the columns in a set s is A applied to s.
 -- The columns of a list of columns are the rows
 unfoldable pub columns : ℕ → List ℕ → List ℕ
-columns n rows = map (apply rows) (units n 0)
+columns n rows = map (applied rows) (unitVectors n 0)
 
--- z is a nonzero vector that A sends to zero
+-- A sends z, which isn't zero, to zero
 unfoldable pub kills : List ℕ → ℕ → Bool
-kills rows z = ltb 0 z && eqb (apply rows z) 0
+kills rows z = ltb 0 z && eqb (applied rows z) 0
 
--- the least such below 2 ^ n, or 2 ^ n where there is none
+-- the least nonzero vector below 2 ^ n that A sends to zero, or 2 ^ n where there is none
 unfoldable pub kernel : ℕ → List ℕ → ℕ
 kernel n rows = least (kills rows) (2 ^ n)
 
 -- A, of n columns, sends some nonzero vector to zero
 unfoldable pub singular : ℕ → List ℕ → Bool
-singular n rows = some (kills rows) (2 ^ n)
+singular n rows = anyBelow (kills rows) (2 ^ n)
 
 -- column j is no sum of the columns to its left
 unfoldable pub marked : List ℕ → ℕ → Bool
-marked cols j = not (some (λ s. eqb (comb cols s) (getD cols j 0)) (2 ^ j))
+marked cols j = not (anyBelow (λ s. eqb (comb cols s) (getD cols j 0)) (2 ^ j))
 
--- 1 where the test holds
+-- 1 where a test holds, and 0 where it fails
 abbrev pub oneIf : Bool → ℕ
 oneIf true = 1
 oneIf false = 0
@@ -62,8 +63,8 @@ source n rows c y = least (λ x. eqb (target rows c x) y) (2 ^ n)
 
 -- the inverse of A: its column j is the address that A sends to 2 ^ j
 unfoldable pub inverse : ℕ → List ℕ → List ℕ
-inverse n rows = columns n (map (source n rows 0) (units n 0))
+inverse n rows = columns n (map (source n rows 0) (unitVectors n 0))
 
 -- some number below 2 ^ m has zero parity against each of rows b..m-1 and odd parity against some row from m on
 unfoldable pub spills : ℕ → ℕ → List ℕ → Bool
-spills b m rows = some (λ z. eqb (apply (take (m - b) (drop b rows)) z) 0 && not (eqb (apply (drop m rows) z) 0)) (2 ^ m)
+spills b m rows = anyBelow (λ z. eqb (applied (take (m - b) (drop b rows)) z) 0 && not (eqb (applied (drop m rows) z) 0)) (2 ^ m)

@@ -16,17 +16,17 @@ bit x i = x / 2 ^ i % 2
 unfoldable pub parity : ℕ → ℕ
 parity x = ones x % 2
 
--- v taken d times over GF(2): nothing at 0, v at 1
-unfoldable pub times : ℕ → ℕ → ℕ
-times zero v = 0
-times (suc d) v = v
+-- v unless d is zero, and then nothing: d times v over GF(2), where d is a bit
+unfoldable pub unlessZero : ℕ → ℕ → ℕ
+unlessZero zero v = 0
+unlessZero (suc d) v = v
 
 -- the sum of those of the listed vectors that s picks: the one at place j where bit j of s is 1
 unfoldable pub comb : List ℕ → ℕ → ℕ
 comb [] s = 0
-comb (v ∷ vs) s = bitXor (times (s % 2) v) (comb vs (s / 2))
+comb (v ∷ vs) s = bitXor (unlessZero (s % 2) v) (comb vs (s / 2))
 
--- the n vectors 2 ^ j, 2 ^ (j + 1), ..
-unfoldable pub units : ℕ → ℕ → List ℕ
-units zero j = []
-units (suc n) j = 2 ^ j ∷ units n (suc j)
+-- the n unit vectors 2 ^ j, 2 ^ (j + 1) and so on
+unfoldable pub unitVectors : ℕ → ℕ → List ℕ
+unitVectors zero j = []
+unitVectors (suc n) j = 2 ^ j ∷ unitVectors n (suc j)

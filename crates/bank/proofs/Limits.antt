@@ -1,13 +1,25 @@
 -- What does a geometry inside the limits give a proof? Assumes nothing.
 use mathlib.Core.Path.{_≡_, refl}
 use mathlib.Core.Bool.{Bool, true, false, _&&_}
-use Prim.Native.Nat.{_+_}
+use Prim.Native.Nat.{_+_, _-_, _<_, _≤_}
 use lib.Dec.{ltb, leb}
-use Rattle.algebra.proofs.Search.{and-l, and-r}
+use native.Mathlib.Omega.{arith}
+use Rattle.algebra.specs.Vector.{WORD}
 use borrow.Author.Tests.{ltb-true, leb-true, lt-ltb, le-leb}
+use Rattle.algebra.proofs.Search.{and-l, and-r}
 use Rattle.bank.specs.Limits.{ROWS, BYTES}
-use Rattle.bank.specs.Geometry.{Allowed, inLimits}
+use Rattle.bank.specs.Geometry.{inLimits}
 use Rattle.bank.specs.declared.Geometry.{Geometry}
+
+-- the limits one by one
+pub record Allowed (g : Geometry) : Type 0 where
+  pub n-low : 2 ≤ g .n
+  pub n-high : g .n ≤ ROWS
+  pub block-below : g .b < g .m
+  pub memory-below : g .m < g .n
+  pub drives-fit : g .b + g .d ≤ g .m
+  pub r-low : 1 ≤ g .r
+  pub r-high : g .r ≤ BYTES
 
 pub limits→allowed : (g : Geometry) → inLimits g ≡ true → Allowed g
 unfolding inLimits
@@ -53,3 +65,34 @@ outside g f = go (inLimits g) refl
     go : (t : Bool) → inLimits g ≡ t → t ≡ false
     go true e = absurd (f (limits→allowed g e))
     go false e = refl
+
+-- what code asks of the exponents, so that a search finds it: each is a shift of a word, and a place of an array
+module _ (g : Geometry) (e : inLimits g ≡ true) where
+  pub n-shift : g .n < 64
+  n-shift = omega (arith, limits→allowed g e)
+
+  pub b-shift : g .b < 64
+  b-shift = omega (arith, limits→allowed g e)
+
+  pub d-shift : g .d < 64
+  d-shift = omega (arith, limits→allowed g e)
+
+  pub m-shift : g .m < 64
+  m-shift = omega (arith, limits→allowed g e)
+
+  pub m-b-shift : g .m - g .b < 64
+  m-b-shift = omega (arith, limits→allowed g e)
+
+  pub b-word : g .b < WORD
+  b-word = omega (arith, limits→allowed g e)
+
+  pub b-under-m : g .b ≤ g .m
+  b-under-m = omega (arith, limits→allowed g e)
+
+  pub n-room : g .n ≤ ROWS
+  n-room = limits→allowed g e .n-high
+
+  pub m-room : g .m ≤ ROWS
+  m-room = omega (arith, limits→allowed g e)
+
+pub ruleset limits = (n-shift, b-shift, d-shift, m-shift, m-b-shift, b-word, b-under-m, n-room, m-room)

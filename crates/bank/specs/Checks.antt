@@ -1,16 +1,15 @@
 -- In which order are checks made, and what is handed back? Assumes nothing.
-use mathlib.Core.Bool.{Bool, true, false}
+use mathlib.Core.Bool.{Bool, cond}
 use Prim.Native.Nat.{ℕ, zero, suc}
 
 -- a check: its number where it applies, else what the later checks say
 abbrev pub refuse : Bool → ℕ → ℕ → ℕ
-refuse true number later = number
-refuse false number later = later
+refuse applies number later = cond applies number later
 
--- the first of two numbers that refuses; 0 refuses nothing
-abbrev pub orElse : ℕ → ℕ → ℕ
-orElse zero later = later
-orElse (suc k) later = suc k
+-- two checks, one after the other: the first number that isn't 0, which refuses nothing
+abbrev pub orLater : ℕ → ℕ → ℕ
+orLater zero later = later
+orLater (suc k) later = suc k
 
 module _ {A : Type 0} where
   -- what is handed back with a number: the result with 0, and the other thing with a refusal

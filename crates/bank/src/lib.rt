@@ -14,7 +14,7 @@ pub const PASSES: usize = 13;
 pub const PLACES: usize = PASSES * ROWS;
 
 // The most bytes of a record.
-pub const BYTES: u32 = 64;
+const BYTES: u32 = 64;
 
 // The bits of a word, in which a vector is kept.
 pub const WORD: u32 = 32;

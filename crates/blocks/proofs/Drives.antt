@@ -4,17 +4,20 @@ use mathlib.Core.Logic.{_⊎_, ⊎-elim}
 use mathlib.Core.Bool.{Bool, true, false, cond, _&&_}
 use mathlib.Core.List.{List, _++_}
 use Prim.Native.Nat.{ℕ, zero, suc, _+_, _-_, _*_, _/_, _%_, _≤_, _<_}
-use native.Mathlib.Nat.{add-assoc, add-mul, div-add-mod', div-div-eq-div-mul, div-lt-iff-lt-mul, le-div-iff-mul-le, mod-lt, mul-assoc, mul-comm, mul-zero, not-suc-le-zero, suc-mul, zero-lt-suc}
+use native.Mathlib.Nat.{add-assoc, add-mul, div-add-mod', div-div-eq-div-mul, div-lt-iff-lt-mul, le-div-iff-mul-le, mod-lt, mul-assoc, mul-comm}
+use native.Mathlib.Nat.{mul-zero, not-suc-le-zero, suc-mul, zero-lt-suc}
 use native.Mathlib.Omega.{arith}
 use borrow.Author.Tests.{eq-eqb, eqb-false, eqb-true, le-ltb, lt-ltb, ne-eqb}
 use lib.Arith.{digits-div, digits-mod}
 use lib.Dec.{eqb, ltb}
 use lib.ListN.{length, getD, take, drop}
 use Rattle.algebra.proofs.Search.{le-or-lt}
-use Rattle.moving.proofs.Bytes.{each-each, each-ext, getD-copied, is-each, length-copied}
-use Rattle.moving.specs.Bytes.{copied, within}
-use Rattle.blocks.proofs.Parts.{back-each, by-run, within-after, within-before, within-in}
+use Rattle.moving.proofs.Bytes.{copied-ext, copied-none, each-each, getD-copied, length-copied}
+use Rattle.moving.specs.Bytes.{copied}
+use Rattle.moving.proofs.Laid.{by-run, within-after, within-before, within-in}
+use Rattle.blocks.proofs.Parts.{back-each}
 use Rattle.blocks.specs.Places.{blockPlace, drivePlace, every, inBlock, onDrives, placeBy}
+use Rattle.moving.specs.Laid.{within}
 
 -- r is positive where a * r is
 pub pos-right : (a r j : ℕ) → j < a * r → 0 < r
@@ -39,7 +42,7 @@ module _ (count r : ℕ) (pos : 0 < count * r) where
     before i h e = omega (arith, div-lt-iff-lt-mul pos .1 h, by-record i)
 
     after : (i : ℕ) → y * size + size ≤ i → i / r / count ≡ y → ⊥
-    after i h e = omega (arith, le-div-iff-mul-le {k = size} {x = suc y} {y = i} pos .1 (subst (λ (k : ℕ). k ≤ i) (sym (suc-mul y size)) h), by-record i)
+    after i h e = omega (arith, le-div-iff-mul-le {k = size} {x = suc y} {y = i} pos .1 (omega (arith, suc-mul y size)), by-record i)
 
     -- byte j of block y
     module _ (j : ℕ) (h : j < size) where
@@ -56,7 +59,8 @@ module _ (count r : ℕ) (pos : 0 < count * r) where
 
       its-record : at / r % count ≡ j / r
       its-record =
-          ap (λ (k : ℕ). k % count) (ap (λ (k : ℕ). k / r) split ∙ digits-div (y * count + j / r) (mod-lt j pos-r)) ∙ digits-mod y (div-lt-iff-lt-mul pos-r .1 h)
+          ap (λ (k : ℕ). k % count) (ap (λ (k : ℕ). k / r) split ∙ digits-div (y * count + j / r) (mod-lt j pos-r))
+          ∙ digits-mod y (div-lt-iff-lt-mul pos-r .1 h)
 
       its-byte : at % r ≡ j % r
       its-byte = ap (λ (k : ℕ). k % r) split ∙ digits-mod (y * count + j / r) (mod-lt j pos-r)
@@ -77,20 +81,17 @@ module _ (count r : ℕ) (pos : 0 < count * r) where
 
       go : (i x : ℕ) → within o k i (getD ys (i - o) 0) x ≡ cond (eqb (i / r / count) y) (getD m (P (i / r % count) * r + i % r) 0) x
       go i x =
-          by-run o k i (within o k i (getD ys (i - o) 0) x ≡ cond (eqb (i / r / count) y) (getD m (P (i / r % count) * r + i % r) 0) x)
-          (λ h. within-before o k i (getD ys (i - o) 0) x h
-          ∙ sym (ap (λ (t : Bool). cond t (getD m (P (i / r % count) * r + i % r) 0) x) (ne-eqb (i / r / count) y (before y i (omega arith)))))
+          by-run o k i
+          (λ h. rw (within-before, ne-eqb (i / r / count) y (before y i (omega arith))))
           (λ h l. let w : i ≡ y * size + (i - o) = omega arith in
-          within-in o k i (getD ys (i - o) 0) x h l ∙ inside (i - o) (omega arith) i w
-          ∙ sym (ap (λ (t : Bool). cond t (getD m (P (i / r % count) * r + i % r) 0) x) (eq-eqb (i / r / count) y (ap (λ (z : ℕ). z / r / count) w ∙ its-block y (i - o) (omega arith)))))
-          (λ h. within-after o k i (getD ys (i - o) 0) x h
-          ∙ sym (ap (λ (t : Bool). cond t (getD m (P (i / r % count) * r + i % r) 0) x) (ne-eqb (i / r / count) y (after y i (omega arith)))))
+          rw (within-in, eq-eqb (i / r / count) y (ap (λ (z : ℕ). z / r / count) w ∙ its-block y (i - o) (omega arith))) (inside (i - o) (omega arith) i w))
+          (λ h. rw (within-after, ne-eqb (i / r / count) y (after y i (omega arith))))
 
 -- ---- drive after drive
 
 module _ (Y : ℕ → ℕ) (D : ℕ) where
   -- block z is that of its drive, and the drive is below q
-  abbrev pub below : ℕ → ℕ → Bool
+  abbrev below : ℕ → ℕ → Bool
   below q z = ltb (z % D) q && eqb z (Y (z % D))
 
   below-same : (q z : ℕ) → z % D < q → below q z ≡ eqb z (Y (z % D))
@@ -114,8 +115,8 @@ module _ (Y : ℕ → ℕ) (D : ℕ) where
   own : (q z : ℕ) → z ≡ Y q → z % D ≡ q → below (q + 1) z ≡ true
   own q z e d = below-same (q + 1) z (omega arith) ∙ eq-eqb z (Y (z % D)) (e ∙ ap Y (sym d))
 
-  turn-byte : (q y z w′ w x : ℕ) → y ≡ Y q → y % D ≡ q → (z ≡ y → w′ ≡ w) → cond (eqb z y) w′ (cond (below q z) w x) ≡ cond (below (q + 1) z) w x
-  turn-byte q y z w′ w x ey yq same = go (eqb z y) refl
+  once-byte : (q y z w′ w x : ℕ) → y ≡ Y q → y % D ≡ q → (z ≡ y → w′ ≡ w) → cond (eqb z y) w′ (cond (below q z) w x) ≡ cond (below (q + 1) z) w x
+  once-byte q y z w′ w x ey yq same = go (eqb z y) refl
     where
       go : (t : Bool) → eqb z y ≡ t → cond t w′ (cond (below q z) w x) ≡ cond (below (q + 1) z) w x
       go true e =
@@ -129,25 +130,26 @@ module _ (Y : ℕ → ℕ) (D : ℕ) where
     drivesDone q = copied (λ x. below q (x / count)) (drivePlace count D P columns) r m a
 
     pub drives-none : a ≡ drivesDone 0
-    unfolding copied
-    drives-none =
-        is-each (λ i x. cond (below 0 (i / r / count)) (getD m (drivePlace count D P columns (i / r) * r + i % r) 0) x) a a refl
-        (λ i h. sym (ap (λ (t : Bool). cond t (getD m (drivePlace count D P columns (i / r) * r + i % r) 0) (getD a i 0)) (below-not 0 (i / r / count) (omega arith))))
+    drives-none = copied-none (drivePlace count D P columns) r m a (λ x. below 0 (x / count)) (λ x. below-not 0 (x / count) (omega arith))
 
     pub drives-all : 0 < D → drivesDone D ≡ copied (onDrives count D Y) (drivePlace count D P columns) r m a
-    unfolding copied
     drives-all pos =
-        each-ext (λ i x. cond (below D (i / r / count)) (getD m (drivePlace count D P columns (i / r) * r + i % r) 0) x)
-        (λ i x. cond (onDrives count D Y (i / r)) (getD m (drivePlace count D P columns (i / r) * r + i % r) 0) x) a
-        (λ i h. ap (λ (t : Bool). cond t (getD m (drivePlace count D P columns (i / r) * r + i % r) 0) (getD a i 0)) (below-same D (i / r / count) (mod-lt (i / r / count) pos)))
+        copied-ext (drivePlace count D P columns) r m a (λ x. below D (x / count)) (onDrives count D Y)
+        (λ x. below-same D (x / count) (mod-lt (x / count) pos))
 
-    pub drives-turn : (a₁ : List ℕ) (q y base : ℕ) → a₁ ≡ drivesDone q → y ≡ Y q → y % D ≡ q → base ≡ P q
+    pub drives-once : (a₁ : List ℕ) (q y base : ℕ) → a₁ ≡ drivesDone q → y ≡ Y q → y % D ≡ q → base ≡ P q
         → copied (inBlock count y) (blockPlace count base columns) r m a₁ ≡ drivesDone (q + 1)
     unfolding copied
-    drives-turn a₁ q y base e ey yq eb =
-        ap (λ (l : List ℕ). copied (inBlock count y) (blockPlace count base columns) r m l) e
-        ∙ each-each (λ i x. cond (below q (i / r / count)) (getD m (drivePlace count D P columns (i / r) * r + i % r) 0) x)
-        (λ i x. cond (eqb (i / r / count) y) (getD m (blockPlace count base columns (i / r) * r + i % r) 0) x)
-        (λ i x. cond (below (q + 1) (i / r / count)) (getD m (drivePlace count D P columns (i / r) * r + i % r) 0) x) a
-        (λ i h. turn-byte q y (i / r / count) (getD m (blockPlace count base columns (i / r) * r + i % r) 0) (getD m (drivePlace count D P columns (i / r) * r + i % r) 0) (getD a i 0) ey yq
+    drives-once a₁ q y base e ey yq eb =
+        ap (copied (inBlock count y) (blockPlace count base columns) r m) e
+        ∙ each-each (λ i x. cond (below q (i / r / count)) (new i) x) (λ i x. cond (eqb (i / r / count) y) (own′ i) x)
+        (λ i x. cond (below (q + 1) (i / r / count)) (new i) x) a
+        (λ i h. once-byte q y (i / r / count) (own′ i) (new i) (getD a i 0) ey yq
         (λ z. ap (λ (p : ℕ). getD m (placeBy p columns (i / r % count) * r + i % r) 0) (eb ∙ ap P (sym (ap (λ (k : ℕ). k % D) z ∙ yq)))))
+      where
+        -- byte i as its own drive's block has it, and as block y would
+        new : ℕ → ℕ
+        new i = getD m (drivePlace count D P columns (i / r) * r + i % r) 0
+
+        own′ : ℕ → ℕ
+        own′ i = getD m (blockPlace count base columns (i / r) * r + i % r) 0

@@ -1,6 +1,6 @@
 -- What does a block hold after k of its records were filled? Assumes nothing.
-use mathlib.Core.Path.{_≡_, refl, sym, ap, ap₂, _∙_, subst}
-use mathlib.Core.Bool.{Bool, cond}
+use mathlib.Core.Path.{_≡_, sym, ap, ap₂, _∙_, subst}
+use mathlib.Core.Bool.{cond}
 use mathlib.Core.List.{List}
 use Prim.Native.Nat.{ℕ, suc, _+_, _-_, _*_, _/_, _%_, _≤_, _<_}
 use native.Mathlib.Nat.{div-lt-iff-lt-mul, le-div-iff-mul-le, suc-mul, zero-add}
@@ -9,10 +9,12 @@ use borrow.Author.Tests.{lt-ltb, le-ltb}
 use lib.Arith.{digits-div, digits-mod}
 use lib.Dec.{ltb}
 use lib.ListN.{length, getD}
-use Rattle.moving.proofs.Bytes.{each-each, each-ext, is-each, length-copied, record-of}
-use Rattle.moving.specs.Bytes.{copied, laid, within}
-use Rattle.blocks.proofs.Parts.{by-run, getD-part, length-part, part, within-after, within-before, within-in}
+use Rattle.moving.proofs.Bytes.{copied-none, each-each, each-ext}
+use Rattle.moving.specs.Bytes.{copied}
+use Rattle.moving.proofs.Laid.{by-run, within-after, within-before, within-in}
+use Rattle.blocks.proofs.Parts.{getD-part, length-part, part}
 use Rattle.blocks.specs.Places.{every}
+use Rattle.moving.specs.Laid.{laid, within}
 
 -- the block once its first k records are filled
 abbrev pub filled : (ℕ → ℕ) → ℕ → List ℕ → ℕ → List ℕ → List ℕ
@@ -20,24 +22,23 @@ filled P r m k b = copied (λ j. ltb j k) P r m b
 
 module _ (P : ℕ → ℕ) (r : ℕ) (pos : 0 < r) (m b : List ℕ) where
   pub filled-none : b ≡ filled P r m 0 b
-  unfolding copied
-  filled-none =
-      is-each (λ i x. cond (ltb (i / r) 0) (getD m (P (i / r) * r + i % r) 0) x) b b refl (λ i h. rw (le-ltb (i / r) 0 (omega arith)))
+  filled-none = copied-none P r m b (λ j. ltb j 0) (λ j. le-ltb j 0 (omega arith))
 
   pub filled-all : (count : ℕ) → length b ≡ count * r → filled P r m count b ≡ copied every P r m b
   unfolding copied
   filled-all count e =
       each-ext (λ i x. cond (ltb (i / r) count) (getD m (P (i / r) * r + i % r) 0) x) (λ i x. getD m (P (i / r) * r + i % r) 0) b
-      (λ i h. rw (lt-ltb (i / r) count (record-of i count r pos (subst (λ (n : ℕ). i < n) e h))))
+      (λ i h. rw (lt-ltb (i / r) count (div-lt-iff-lt-mul pos .1 (subst (λ (n : ℕ). i < n) e h))))
 
-  -- record k, whose bytes were lent as a part of m. b₁ is what the turns before left
-  pub filled-turn : (b₁ : List ℕ) (k o s : ℕ) → o ≡ k * r → s ≡ P k * r → b₁ ≡ filled P r m k b → s + r ≤ length m
+  -- record k, whose bytes were lent as a part of m. b₁ is what the iterations before left
+  pub filled-once : (b₁ : List ℕ) (k o s : ℕ) → o ≡ k * r → s ≡ P k * r → b₁ ≡ filled P r m k b → s + r ≤ length m
       → laid b₁ o (length (part s (s + r) m)) (part s (s + r) m) 0 ≡ filled P r m (k + 1) b
   unfolding laid copied
-  filled-turn b₁ k o s ok sk e h =
+  filled-once b₁ k o s ok sk e h =
       ap (λ (n : ℕ). laid b₁ o n y 0) (length-part s (s + r) m h ∙ omega arith)
       ∙ ap (λ (l : List ℕ). laid l o r y 0) e
-      ∙ each-each (λ i x. cond (ltb (i / r) k) (byte i) x) (λ i x. within o r i (getD y (0 + (i - o)) 0) x) (λ i x. cond (ltb (i / r) (k + 1)) (byte i) x) b
+      ∙ each-each (λ i x. cond (ltb (i / r) k) (byte i) x) (λ i x. within o r i (getD y (0 + (i - o)) 0) x)
+      (λ i x. cond (ltb (i / r) (k + 1)) (byte i) x) b
       (λ i l. at i (getD b i 0))
     where
       y : List ℕ
@@ -64,15 +65,9 @@ module _ (P : ℕ → ℕ) (r : ℕ) (pos : 0 < r) (m b : List ℕ) where
 
       at : (i x : ℕ) → within o r i (getD y (0 + (i - o)) 0) (cond (ltb (i / r) k) (byte i) x) ≡ cond (ltb (i / r) (k + 1)) (byte i) x
       at i x =
-          by-run o r i (within o r i (getD y (0 + (i - o)) 0) (cond (ltb (i / r) k) (byte i) x) ≡ cond (ltb (i / r) (k + 1)) (byte i) x)
+          by-run o r i
           (λ l. let q : i / r < k = div-lt-iff-lt-mul pos .1 (subst (λ (n : ℕ). i < n) ok l) in
-          within-before o r i (getD y (0 + (i - o)) 0) (cond (ltb (i / r) k) (byte i) x) l
-          ∙ ap (λ (t : Bool). cond t (byte i) x) (lt-ltb (i / r) k q ∙ sym (lt-ltb (i / r) (k + 1) (omega arith))))
-          (λ g l. within-in o r i (getD y (0 + (i - o)) 0) (cond (ltb (i / r) k) (byte i) x) g l ∙ inside i g l .1
-          ∙ ap (λ (t : Bool). cond t (byte i) x) (sym (lt-ltb (i / r) (k + 1) (omega (arith, inside i g l .0)))))
-          (λ g. let q : suc k ≤ i / r = le-div-iff-mul-le {k = r} {x = suc k} {y = i} pos .1 (subst (λ (n : ℕ). n ≤ i) (sym (suc-mul k r)) (omega arith)) in
-          within-after o r i (getD y (0 + (i - o)) 0) (cond (ltb (i / r) k) (byte i) x) g
-          ∙ ap (λ (t : Bool). cond t (byte i) x) (le-ltb (i / r) k (omega arith) ∙ sym (le-ltb (i / r) (k + 1) (omega arith))))
-
-pub length-filled : (P : ℕ → ℕ) (r : ℕ) (m : List ℕ) (k : ℕ) (b : List ℕ) → length (filled P r m k b) ≡ length b
-length-filled P r m k b = length-copied (λ j. ltb j k) P r m b
+          rw (within-before, lt-ltb (i / r) k q, lt-ltb (i / r) (k + 1) (omega arith)))
+          (λ g l. rw (within-in, lt-ltb (i / r) (k + 1) (omega (arith, inside i g l .0))) (inside i g l .1))
+          (λ g. let q : suc k ≤ i / r = le-div-iff-mul-le {k = r} {x = suc k} {y = i} pos .1 (omega (arith, suc-mul k r)) in
+          rw (within-after, le-ltb (i / r) k (omega arith), le-ltb (i / r) (k + 1) (omega arith)))

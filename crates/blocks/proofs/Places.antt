@@ -11,9 +11,9 @@ use borrow.Author.Tests.{eq-eqb, ne-eqb}
 use lib.Bits.{bitXor, xor-comm, xor-self, xor-zero-r}
 use lib.ListN.{length, getD, drop, drop-of-length-le}
 use lib.Seq.{drop-cons}
-use Rattle.algebra.proofs.Digits.{xor-assoc}
+use Rattle.algebra.proofs.Digits.{unless-no, xor-assoc}
 use Rattle.algebra.proofs.Linear.{comb-zero}
-use Rattle.algebra.proofs.Loops.{times-nil, times-not}
+use Rattle.algebra.proofs.Loops.{unless-not}
 use Rattle.algebra.specs.Vector.{comb}
 use Rattle.blocks.specs.Places.{flips, placeBy}
 
@@ -37,15 +37,15 @@ unfolding comb flips
 comb-next [] k = refl
 comb-next (c ∷ cs) k =
     ⊎-elim
-    (λ (e : k % 2 ≡ 0). ap₂ bitXor (ap (λ (n : ℕ). bitXor n (comb cs (k / 2))) (sym (times-nil (k % 2) c e))) (flips-even c cs k e)
+    (λ (e : k % 2 ≡ 0). ap₂ bitXor (ap (λ (n : ℕ). bitXor n (comb cs (k / 2))) (unless-no (k % 2) c e)) (flips-even c cs k e)
     ∙ xor-comm (comb cs (k / 2)) c
-    ∙ ap₂ bitXor (times-not ((k + 1) % 2) c (λ z. omega arith)) (ap (comb cs) (omega arith)))
+    ∙ ap₂ bitXor (unless-not ((k + 1) % 2) c (λ z. omega arith)) (ap (comb cs) (omega arith)))
     (λ (h : 0 < k % 2).
-    ap₂ bitXor (ap (λ (n : ℕ). bitXor n (comb cs (k / 2))) (sym (times-not (k % 2) c (λ z. omega arith)))) (flips-odd c cs k (λ z. omega arith))
+    ap₂ bitXor (ap (λ (n : ℕ). bitXor n (comb cs (k / 2))) (sym (unless-not (k % 2) c (λ z. omega arith)))) (flips-odd c cs k (λ z. omega arith))
     ∙ twice c (comb cs (k / 2)) (flips cs (k / 2))
     ∙ comb-next cs (k / 2)
     ∙ ap (comb cs) (omega arith)
-    ∙ ap (λ (n : ℕ). bitXor n (comb cs ((k + 1) / 2))) (times-nil ((k + 1) % 2) c (omega arith)))
+    ∙ ap (λ (n : ℕ). bitXor n (comb cs ((k + 1) / 2))) (sym (unless-no ((k + 1) % 2) c (omega arith))))
     (eq-zero-or-pos (k % 2))
 
 -- place k + 1 from place k
@@ -55,7 +55,7 @@ place-next base cols k = xor-assoc base (comb cols k) (flips cols k) ∙ ap (bit
 pub place-zero : (base : ℕ) (cols : List ℕ) → base ≡ placeBy base cols 0
 place-zero base cols = sym (ap (bitXor base) (comb-zero cols) ∙ xor-zero-r base)
 
--- ---- a turn of the walk, and its ways out
+-- ---- an iteration of the walk, and its ways out
 
 at-drop : (cols : List ℕ) (j x : ℕ) → j < length cols → flips (drop j cols) x ≡ flips (getD cols j 0 ∷ drop (suc j) cols) x
 at-drop cols j x h = ap (λ (l : List ℕ). flips l x) (drop-cons cols j 0 h)
@@ -63,7 +63,8 @@ at-drop cols j x h = ap (λ (l : List ℕ). flips l x) (drop-cons cols j 0 h)
 pub walk-stop : (cols : List ℕ) (s x j : ℕ) → j < length cols → x % 2 ≡ 0 → bitXor s (getD cols j 0) ≡ bitXor s (flips (drop j cols) x)
 walk-stop cols s x j h e = ap (bitXor s) (sym (at-drop cols j x h ∙ flips-even (getD cols j 0) (drop (suc j) cols) x e))
 
-pub walk-on : (cols : List ℕ) (s x j : ℕ) → j < length cols → (x % 2 ≡ 0 → ⊥) → bitXor (bitXor s (getD cols j 0)) (flips (drop (j + 1) cols) (x / 2)) ≡ bitXor s (flips (drop j cols) x)
+pub walk-on : (cols : List ℕ) (s x j : ℕ) → j < length cols → (x % 2 ≡ 0 → ⊥)
+    → bitXor (bitXor s (getD cols j 0)) (flips (drop (j + 1) cols) (x / 2)) ≡ bitXor s (flips (drop j cols) x)
 walk-on cols s x j h e =
     xor-assoc s (getD cols j 0) (flips (drop (j + 1) cols) (x / 2))
     ∙ ap (bitXor s)

@@ -1,5 +1,3 @@
--- What the code of a move goes by.
+-- What proofs and inner contracts of a move go by; the rules need none of it.
 pub mod Places
-pub mod Turns
-pub mod Tables
 pub mod Moving

@@ -1,63 +1,73 @@
 -- What does a step do, by the tables of its pass? Assumes nothing.
+-- What proofs and inner contracts go by; the rules need none of it.
 use mathlib.Core.Path.{_≡_}
+use mathlib.Core.Bool.{true}
 use mathlib.Core.List.{List}
-use Prim.Native.Nat.{ℕ, zero, suc, _+_, _*_, _<_, _≤_}
-use lib.ListN.{length, getD, take, drop}
-use Rattle.bank.specs.Limits.{ROWS}
-use Rattle.bank.specs.Geometry.{loads, memory, records, stripes}
+use Prim.Native.Nat.{ℕ, _+_, _*_, _<_, _≤_}
+use lib.ListN.{length}
+use Rattle.bank.specs.declared.Geometry.{Geometry}
+use Rattle.bank.specs.Geometry.{inLimits, loads, memorySize, records, tiers}
 use Rattle.planning.specs.declared.Plan.{Plan}
 use Rattle.planning.specs.Pass.{total}
 use Rattle.planning.specs.Stored.{routeOf}
-use Rattle.planning.specs.Running.{Runs}
 use Rattle.moving.specs.Bytes.{copied}
-use Rattle.moving.specs.Step.{Buffers, Fits, byPhase, readFrom, readMove, readTakes, writeFrom, writeMove, writeTakes}
-use Rattle.blocks.specs.Tables.{Prepared, passFor, tablesFor}
-use Rattle.blocks.specs.Turns.{paceOf, turnAt}
-use Rattle.blocks.specs.declared.tables.Tables.{Tables}
-use Rattle.blocks.specs.declared.turns.Turn.{Turn}
+use Rattle.moving.specs.Step.{Buffers, buffersFit, byPhase, readFrom, readMove, readTakes, writeFrom, writeMove, writeTakes}
+use Rattle.tables.specs.Tables.{Prepared, passFor}
+use Rattle.tables.specs.Pace.{standingAt}
+use Rattle.tables.specs.declared.tables.Tables.{Tables}
+use Rattle.tables.specs.declared.pace.Standing.{Standing}
+use Rattle.planning.specs.Inner.{Runs}
 
--- ---- one area read, the other written
+-- a read that is one of the load's, on an area and a memory of their lengths
+pub record ReadReady (g : Geometry) (load tier : ℕ) (area mem : List ℕ) : Type 0 where
+  pub inside : inLimits g ≡ true
+  pub load-in : load < loads g
+  pub tier-in : tier < tiers g
+  pub area-long : length area ≡ records g * g .r
+  pub memory-long : length mem ≡ memorySize g * g .r
 
--- the area written, and memory, after a turn: a read leaves the one, a write the other
-abbrev pub toAfter : Tables → Turn → List ℕ → List ℕ → List ℕ
+-- a write that is one of the load's, on an area and a memory of their lengths
+pub record WriteReady (t : Tables) (load tier : ℕ) (area mem : List ℕ) : Type 0 where
+  pub prepared : Prepared t
+  pub in-load : ReadReady (t .geometry) load tier area mem
+
+-- the area written after a step that stands there: a read leaves it as it is
+abbrev pub toAfter : Tables → Standing → List ℕ → List ℕ → List ℕ
 toAfter t at to mem =
-    byPhase (at .phase) to (copied (writeTakes (t .geometry) (passFor t) (at .load) (at .turn)) (writeFrom (t .geometry) (passFor t)) (t .geometry .r) mem to)
+    byPhase (at .phase) to
+    (copied (writeTakes (t .geometry) (passFor t) (at .load) (at .tier)) (writeFrom (t .geometry) (passFor t)) (t .geometry .r) mem to)
 
-abbrev pub memoryAfter : Tables → Turn → List ℕ → List ℕ → List ℕ
-memoryAfter t at from mem = byPhase (at .phase) (copied (readTakes (t .geometry) (at .turn)) (readFrom (t .geometry) (at .load)) (t .geometry .r) from mem) mem
+-- memory after a step that stands there: a write leaves it as it is
+abbrev pub memoryAfter : Tables → Standing → List ℕ → List ℕ → List ℕ
+memoryAfter t at from mem =
+    byPhase (at .phase) (copied (readTakes (t .geometry) (at .tier)) (readFrom (t .geometry) (at .load)) (t .geometry .r) from mem) mem
 
-pub record BetweenReady (t : Tables) (at : Turn) (from to mem : List ℕ) : Type 0 where
+-- what a step that stands there asks of the area read, the area written and memory
+pub record BetweenReady (t : Tables) (at : Standing) (from to mem : List ℕ) : Type 0 where
   pub prepared : Prepared t
   pub load-in : at .load < loads (t .geometry)
-  pub turn-in : at .turn < stripes (t .geometry)
+  pub tier-in : at .tier < tiers (t .geometry)
   pub from-long : length from ≡ records (t .geometry) * t .geometry .r
   pub to-long : length to ≡ records (t .geometry) * t .geometry .r
-  pub memory-long : length mem ≡ memory (t .geometry) * t .geometry .r
+  pub memory-long : length mem ≡ memorySize (t .geometry) * t .geometry .r
 
--- ---- a turn, a step, and k steps of one pass
-
-abbrev pub moveAt : Tables → Turn → Buffers → Buffers
+-- the move of a step that stands there
+abbrev pub moveAt : Tables → Standing → Buffers → Buffers
 moveAt t at v =
-    byPhase (at .phase) (readMove (t .geometry) (t .pass) (at .load) (at .turn) v) (writeMove (t .geometry) (passFor t) (t .pass) (at .load) (at .turn) v)
+    byPhase (at .phase) (readMove (t .geometry) (t .pass) (at .load) (at .tier) v)
+    (writeMove (t .geometry) (passFor t) (t .pass) (at .load) (at .tier) v)
 
+-- the move of step s
 unfoldable pub moveBy : Tables → ℕ → Buffers → Buffers
-moveBy t s v = moveAt t (turnAt (t .pace) s) v
+moveBy t s v = moveAt t (standingAt (t .pace) s) v
 
-unfoldable pub movesBy : Tables → ℕ → ℕ → Buffers → Buffers
-movesBy t s zero v = v
-movesBy t s (suc k) v = moveBy t (s + k) (movesBy t s k v)
-
+-- what a move asks of the tables and the buffers
 pub record MoveReady (t : Tables) (v : Buffers) : Type 0 where
   pub prepared : Prepared t
-  pub fitting : Fits (t .geometry) v
-
--- ---- the tables of pass p of a plan
-
-unfoldable pub tablesOf : Plan → ℕ → Tables
-tablesOf plan p = tablesFor (plan .geometry) (paceOf (routeOf plan)) p (take ROWS (drop (p * ROWS) (plan .rows))) (getD (plan .complements) p 0)
+  pub fitting : buffersFit (t .geometry) v ≡ true
 
 -- steps that a plan has, on buffers of their lengths
 pub record StepsReady (plan : Plan) (s k : ℕ) (v : Buffers) : Type 0 where
   pub runs : Runs (routeOf plan)
-  pub within : s + k ≤ total (routeOf plan)
-  pub fitting : Fits (plan .geometry) v
+  pub in-total : s + k ≤ total (routeOf plan)
+  pub fitting : buffersFit (plan .geometry) v ≡ true

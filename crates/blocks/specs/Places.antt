@@ -1,4 +1,5 @@
 -- Which places does code go through, one after the other? Assumes nothing.
+-- What proofs and inner contracts go by; the rules need none of it.
 use mathlib.Core.Bool.{Bool, true, cond}
 use mathlib.Core.List.{List, [], _∷_}
 use Prim.Native.Nat.{ℕ, _/_, _%_}

@@ -2,8 +2,9 @@
 ghost use mathlib.Core.Path.{_≡_};
 ghost use Prim.Native.Nat.{ℕ, _+_, _*_, _≤_, _<_};
 ghost use lib.ListN.{length};
-ghost use Rattle.moving.specs.Bytes.{copied, laid};
+ghost use Rattle.moving.specs.Bytes.{copied};
 ghost use Rattle.blocks.specs.Places.{every, flips, placeBy};
+ghost use Rattle.moving.specs.Laid.{laid};
 
 // dst becomes src, which is as long.
 fn copy_into(dst: &mut [u8], src: &[u8])

@@ -1,5 +1,3 @@
 // One move: a block on each drive, read into memory or written from it.
 mod bytes; // bytes.rt: copies, and a block filled record by record
 pub mod moves; // moves.rt: one read, one write, and the move of a step
-pub mod tables; // tables.rt: what a pass's writes need, worked out once a pass
-pub mod turns; // turns.rt: which pass, load, phase and turn is a step?

@@ -14,7 +14,7 @@ use order::address::Target;
 use plan::make::Planned;
 use planning::Plan;
 use planning::state::State;
-use text::read::Read;
+use reading::Read;
 
 fn judge(order: Order) -> u8
     ensures { λ r. ⌜ r ≡ ours .judges order ⌝ }
@@ -43,13 +43,13 @@ fn make_plan(order: Order) -> Planned
 fn total_steps(plan: Plan) -> u64
     ensures { λ r. ⌜ r ≡ ours .total plan ⌝ }
 {
-    plan::running::total_steps(plan)
+    running::total_steps(plan)
 }
 
 fn result_area(plan: Plan) -> u32
     ensures { λ r. ⌜ r ≡ ours .area plan ⌝ }
 {
-    plan::running::result_area(plan)
+    running::result_area(plan)
 }
 
 fn fresh() -> State
@@ -89,11 +89,11 @@ fn run(
 fn read_order(text: &[u8]) -> Read
     ensures { λ r. ⌜ ours .reads (now (text .entry)) (r .number) (r .order) ⌝ }
 {
-    text::read::read_order(text)
+    reading::read_order(text)
 }
 
 fn write_listing(plan: Plan, room: &mut [u8]) -> usize
     ensures { λ r. ⌜ (r ≡ ours .lists plan (now (room .entry))) × (now (room .exit) ≡ ours .leaves plan (now (room .entry))) ⌝ }
 {
-    text::listing::write_listing(plan, room)
+    listing::write_listing(plan, room)
 }

@@ -1,38 +1,34 @@
 -- Has each of our calls one outcome, and what does a refusal hand back and leave? Our mover has demand 1. Assumes nothing.
 use mathlib.Core.Path.{_≡_, refl, sym, ap, _∙_}
-use mathlib.Core.List.{List, [], _∷_}
+use mathlib.Core.List.{List, []}
 use Prim.Native.Nat.{ℕ, zero, suc, _+_, _-_, min}
 use native.Mathlib.Omega.{arith}
 use borrow.Author.Tests.{le-leb, lt-leb}
 use lib.ListN.{length}
-use Rattle.algebra.specs.Matrix.{source, target}
-use Rattle.bank.specs.Checks.{handed}
+use Rattle.algebra.specs.Matrix.{source}
 use Rattle.order.specs.declared.Order.{Order}
+use Rattle.order.specs.declared.address.Target.{Target}
 use Rattle.order.specs.declared.address.Source.{Source}
 use Rattle.order.specs.declared.address.Source.the-variants as answer
-use Rattle.order.specs.Order.{judgement, matrixOf}
+use Rattle.order.specs.Order.{matrixOf}
 use Rattle.order.specs.Address.{Found, foundFor, meaningOf, questionNumber, targetOf}
-use Rattle.order.proofs.Asked.{source-given, source-refused}
+use Rattle.order.proofs.Asked.{source-given, source-refused, target-refused}
 use Rattle.order.proofs.Main.{one-answer}
 use Rattle.planning.specs.declared.state.State.{State}
-use Rattle.planning.specs.Stored.{emptyPlan, planFor}
+use Rattle.plan.specs.declared.make.Planned.{Planned}
 use Rattle.plan.specs.Answer.{plannedFor}
+use Rattle.plan.proofs.Answered.{planned-refused}
 use Rattle.moving.specs.Call.{Moment, ran, stepped}
 use Rattle.moving.proofs.Calls.{nine-state, run-count, run-next, run-ready, step-done}
 use Rattle.mover.proofs.Asked.{total-is}
-use Rattle.text.specs.Listing.{listing, roomAfter, written}
-use Rattle.text.specs.Reading.{Reads, noOrder}
-use Rattle.text.specs.Reading.Reads.{no-first-line, outside, no-rest, singular, taken}
-use Rattle.text.proofs.Main.{one-reading, some-reading}
+use Rattle.listing.specs.Listing.{listing, roomAfter, written}
+use Rattle.reading.specs.Reading.{Reads, noOrder}
+use Rattle.reading.specs.Reading.Reads.{no-first-line, outside, no-rest, singular, taken}
+use Rattle.reading.proofs.Main.{one-reading, some-reading}
 use Rattle.demands.specs.Ours.{ours}
 use Rattle.demands.specs.Answers.{Answers, Refusal}
 use Rattle.demands.proofs.Numbers.{ours-numbers}
 use Rattle.demands.proofs.Promised.{run-promised, run-refused, runAnswer, step-number, step-promised, step-refused, step-state, stepAnswer}
-
--- with a number other than 0, the other thing is handed back
-refused-other : {A : Type 0} (k : ℕ) (result other : A) → Refusal k → handed k result other ≡ other
-refused-other zero result other f = absurd (f refl)
-refused-other (suc k) result other f = refl
 
 -- asked backwards: an answer for each number
 some-source : (order : Order) (y : ℕ) → (a : Source) × (meaningOf a ≡ foundFor order y)
@@ -43,10 +39,10 @@ some-source order y = by (questionNumber order y) refl
     by (suc k) e = (answer.Refused (suc k), source-refused order y (suc k) (sym e) (λ z. omega arith))
 
 no-source : (order : Order) (y : ℕ) (a : Source) → meaningOf a ≡ foundFor order y → Refusal (meaningOf a .number) → meaningOf a .sources ≡ []
-unfolding foundFor
+unfolding foundFor meaningOf
 no-source order y a p f =
-    ap (λ (r : Found). r .sources) p
-    ∙ refused-other (questionNumber order y) (source (order .geometry .n) (matrixOf order) (order .complement) y ∷ []) [] (λ e. f (ap (λ (r : Found). r .number) p ∙ e))
+    let q = source-refused order y (questionNumber order y) refl (λ e. f (ap (λ (r : Found). r .number) p ∙ e)) in
+    ap (λ (r : Found). r .sources) (p ∙ sym q)
 
 -- a text that is refused gives no order
 refused-empty : {text : List ℕ} {k : ℕ} {order : Order} → Reads text k order → Refusal k → order ≡ noOrder
@@ -61,14 +57,15 @@ unfolding targetOf plannedFor written roomAfter
 ours-answers =
     record {
       numbered = ours-numbers;
-      target-refused = λ order x f. refused-other (questionNumber order x) (target (matrixOf order) (order .complement) x) 0 f;
+      target-refused = λ order x f. sym (ap (λ (t : Target). t .address .0) (target-refused order x (questionNumber order x) refl f));
       source-refused = no-source;
       source-some = some-source;
       source-one = λ order y a b p q. one-answer a b (p ∙ sym q);
       plan-number = λ order. refl;
-      plan-refused = λ order f. refused-other (judgement order) (planFor (order .geometry) (matrixOf order) (order .complement)) emptyPlan f;
+      plan-refused = λ order f. ap (λ (a : Planned). a .plan) (planned-refused order f);
       step-done = λ plan m k r w p e.
-          ap (λ (s : State). s .next .0) (step-state plan m k r w p ∙ ap (λ (n : Moment). n .state) (step-done plan m k (sym (step-number plan m k r w p) ∙ e)));
+          let done = step-done plan m k (sym (step-number plan m k r w p) ∙ e) in
+          ap (λ (s : State). s .next .0) (step-state plan m k r w p ∙ ap (λ (n : Moment). n .state) done);
       step-again = λ plan m k r w p e. step-state plan m k r w p ∙ nine-state plan m k (sym (step-number plan m k r w p) ∙ e);
       step-refused = λ plan m k r w p f.
           let e = step-refused plan m k r w p f in (ap (λ (n : Moment). n .state) e, ap (λ (n : Moment). n .buffers) e);

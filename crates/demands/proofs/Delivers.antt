@@ -1,19 +1,20 @@
 -- Our mover has demand 3, by its own plans and by any plan that performs an order. Assumes nothing.
-use mathlib.Core.Path.{_≡_, refl, sym, ap, ap₂, _∙_, subst}
+use mathlib.Core.Path.{_≡_, refl, ap, ap₂, _∙_, subst}
 use mathlib.Core.Bool.{true, cond}
 use mathlib.Core.List.{List}
 use Prim.Native.Nat.{ℕ, zero, suc, _+_, _-_, _%_, _*_, _<_, _≤_}
-use native.Mathlib.Nat.{add-assoc, add-zero, le-of-eq, zero-add}
+use native.Mathlib.Nat.{le-of-eq, zero-add}
 use native.Mathlib.Omega.{arith}
 use lib.Dec.{eqb}
 use lib.ListN.{length}
 use Rattle.algebra.proofs.Listed.{listed-length}
-use Rattle.algebra.specs.Matrix.{columns, rank, target}
+use Rattle.algebra.specs.Matrix.{columns, rank}
 use Rattle.bank.specs.Limits.{PASSES, ROWS}
 use Rattle.bank.specs.declared.Geometry.{Geometry}
 use Rattle.bank.specs.Geometry.{records}
 use Rattle.order.specs.declared.Order.{Order}
 use Rattle.order.specs.Order.{matrixOf, judgement}
+use Rattle.order.specs.Address.{sentTo}
 use Rattle.planning.specs.declared.Plan.{Plan}
 use Rattle.planning.specs.Columns.{phi}
 use Rattle.planning.specs.Making.{dividedUp}
@@ -24,62 +25,59 @@ use Rattle.planning.proofs.Running.{sound-allowed, sound→can-run, sound→run
 use Rattle.planning.proofs.Stored.{route-length}
 use Rattle.plan.specs.declared.make.Planned.{Planned}
 use Rattle.plan.specs.Answer.{plannedFor}
-use Rattle.plan.specs.Total.{totalSteps, resultArea}
+use Rattle.running.specs.Total.{resultArea}
 use Rattle.plan.proofs.Answered.{planned-taken}
 use Rattle.plan.proofs.Main.{made-accepted}
 use Rattle.moving.specs.Bytes.{recordOf}
-use Rattle.moving.specs.Step.{Buffers, areaBy, areaOf, fits}
-use Rattle.moving.specs.Call.{Moment, begun, ran}
-use Rattle.moving.proofs.Calls.{Ready, can→ready, next-number, ready-run}
+use Rattle.moving.specs.Step.Area.{zeroth, first}
+use Rattle.moving.specs.Step.{Buffers, bytesOf, areaRead, buffersFit}
+use Rattle.moving.specs.Call.{Moment, begun}
+use Rattle.moving.proofs.Calls.{CallReady, can→ready, next-number, ready-run, run-next}
 use Rattle.moving.proofs.Numbers.{pass-twice}
 use Rattle.moving.proofs.Kept.{Kept, delivered, kept-begun, kept-ready, kept-run, kept-step, step-advance}
-use Rattle.mover.specs.Promise.{numberOf}
 use Rattle.mover.proofs.Asked.{total-is}
+use Rattle.demands.specs.Mover.{beginning}
 use Rattle.demands.specs.Ours.{ours}
-use Rattle.demands.specs.Chain.{Called, Chain, newSteps, strayed}
-use Rattle.demands.specs.Chain.Chain.{none, step, run, strayStep, strayRun}
-use Rattle.demands.specs.Sends.{sentTo}
+use Rattle.demands.specs.Chain.{Called, Chain, newSteps}
+use Rattle.demands.specs.Chain.Chain.{noCalls, step, run, strayStep, strayRun}
 use Rattle.demands.specs.Delivers.{Carries, Delivered, Delivers, DeliversForeign, Performs, Reached, Runnable, areaNamed, roundsFor}
-use Rattle.demands.specs.Counts.{Counts}
+use Rattle.demands.specs.PassCounts.{PassCounts}
 use Rattle.demands.proofs.OneStep.{one-step}
 use Rattle.demands.proofs.Repeats.{ours-repeats}
-use Rattle.demands.proofs.Promised.{given-back, run-moment, run-refused, step-moment, step-number, step-refused}
+use Rattle.demands.proofs.Promised.{run-moment, step-moment, step-number}
+use Rattle.demands.proofs.Answers.{ours-answers}
+use Rattle.demands.proofs.Chains.{stray-run, stray-step}
 
 -- ---- a chain of our calls keeps what each call keeps, and its state counts the new steps
 
-pub kept-chain : {plan : Plan} {m end : Moment} {cs : List Called} (v : Buffers) → Chain ours plan m cs end → Kept plan v m → Kept plan v end
-kept-chain v none k = k
-kept-chain {plan} {end = end} v (step {m = m} {w = w} i answer p rest) k =
-    kept-chain v rest (subst (Kept plan v) (sym (step-moment plan m i answer w p)) (kept-step plan v m k i))
-kept-chain {plan} v (run {m = m} {w = w} q answer p rest) k = kept-chain v rest (subst (Kept plan v) (sym (run-moment plan m q answer w p)) (kept-run plan v m k q))
-kept-chain {plan} v (strayStep {m = m} {w = w} stray i answer p f rest) k =
-    kept-chain v rest (subst (Kept plan v) (sym (given-back stray m w (step-refused (stray .plan) (strayed stray m) i answer w p f))) k)
-kept-chain {plan} v (strayRun {m = m} {w = w} stray q answer p f rest) k =
-    kept-chain v rest (subst (Kept plan v) (sym (given-back stray m w (run-refused (stray .plan) (strayed stray m) q answer w p f .1))) k)
+kept-chain : {plan : Plan} {m end : Moment} {cs : List Called} (v : Buffers) → Chain ours plan m cs end → Kept plan v m → Kept plan v end
+kept-chain v noCalls k = k
+kept-chain {plan} v (step {m = m} {w = w} i answer p rest) k =
+    kept-chain v rest (rw (step-moment plan m i answer w p) (kept-step plan v m k i))
+kept-chain {plan} v (run {m = m} {w = w} q answer p rest) k = kept-chain v rest (rw (run-moment plan m q answer w p) (kept-run plan v m k q))
+kept-chain v (strayStep {m = m} {w = w} stray i answer p f rest) k = kept-chain v rest (rw (stray-step ours ours-answers stray m i answer w p f) k)
+kept-chain v (strayRun {m = m} {w = w} stray q answer p f rest) k = kept-chain v rest (rw (stray-run ours ours-answers stray m q answer w p f) k)
 
-pub chain-advance : {plan : Plan} {m end : Moment} {cs : List Called} → Chain ours plan m cs end → end .state .next .0 ≡ m .state .next .0 + newSteps cs
-unfolding newSteps ran
-chain-advance {m = m} none = sym (add-zero _)
-chain-advance {plan} (step {m = m} {w = w} {cs = cs} i answer p rest) =
-    chain-advance rest
-    ∙ ap (λ (n : Moment). n .state .next .0 + newSteps cs) (step-moment plan m i answer w p)
-    ∙ ap (λ (j : ℕ). j + newSteps cs) (step-advance plan m i ∙ ap (λ (j : ℕ). m .state .next .0 + cond (eqb j 0) 1 0) (sym (step-number plan m i answer w p)))
-    ∙ add-assoc (m .state .next .0) (cond (eqb (numberOf answer) 0) 1 0) (newSteps cs)
-chain-advance {plan} (run {m = m} {w = w} {cs = cs} q answer p rest) =
-    chain-advance rest
-    ∙ ap (λ (n : Moment). n .state .next .0 + newSteps cs) (run-moment plan m q answer w p)
-    ∙ ap (λ (j : ℕ). m .state .next .0 + j + newSteps cs) (sym (p .count))
-    ∙ add-assoc (m .state .next .0) (answer .count) (newSteps cs)
+chain-advance : {plan : Plan} {m end : Moment} {cs : List Called} → Chain ours plan m cs end → end .state .next .0 ≡ m .state .next .0 + newSteps cs
+unfolding newSteps
+chain-advance noCalls = omega arith
+chain-advance {plan} (step {m = m} {w = w} i answer p rest) =
+    let left = ap (λ (n : Moment). n .state .next .0) (step-moment plan m i answer w p) in
+    let one = ap {B = ℕ} (λ k. cond (eqb k 0) 1 0) (step-number plan m i answer w p) in
+    omega (arith, chain-advance rest, left, step-advance plan m i, one)
+chain-advance {plan} (run {m = m} {w = w} q answer p rest) =
+    let left = ap (λ (n : Moment). n .state .next .0) (run-moment plan m q answer w p) in
+    omega (arith, chain-advance rest, left, run-next plan m q, p .count)
 chain-advance (strayStep stray i answer p f rest) = chain-advance rest
 chain-advance (strayRun stray q answer p f rest) = chain-advance rest
 
 -- ---- the area that our call names
 
-area-is : (plan : Plan) (v : Buffers) → areaNamed (resultArea plan) v ≡ areaOf (plan .count) v
+area-is : (plan : Plan) (v : Buffers) → areaNamed (ours .area plan) v ≡ bytesOf (areaRead (plan .count)) v
 unfolding areaNamed resultArea
 area-is plan v = by (plan .count % 2) (omega arith)
   where
-    by : (k : ℕ) → k < 2 → areaNamed k v ≡ areaBy (eqb k 0) v
+    by : (k : ℕ) → k < 2 → areaNamed k v ≡ bytesOf (cond (eqb k 0) zeroth first) v
     by zero h = refl
     by (suc zero) h = refl
     by (suc (suc k)) h = absurd (omega arith)
@@ -87,23 +85,26 @@ area-is plan v = by (plan .count % 2) (omega arith)
 -- ---- a plan that can run, whoever made it
 
 module _ (plan : Plan) (can : Runnable plan) where
-  all : totalSteps plan ≡ total (routeOf plan)
+  all : ours .total plan ≡ total (routeOf plan)
   all = total-is plan (can .can-run)
 
-  module _ (v : Buffers) (fitting : fits (plan .geometry) v ≡ true) (cs : List Called) (end : Moment) (chain : Chain ours plan (begun v) cs end) where
-    pub kept : Kept plan v end
+  module _ (v : Buffers) (fitting : buffersFit (plan .geometry) v ≡ true) (cs : List Called) (end : Moment)
+      (chain : Chain ours plan (beginning ours v) cs end) where
+    kept : Kept plan v end
     kept = kept-chain v chain (kept-begun plan v)
 
-    -- no call of the line is refused with 7 or 4
-    ready : Ready plan end
+    -- no call of the chain is refused with 7 or 4
+    ready : CallReady plan end
     ready = kept-ready plan v end kept (can→ready plan (begun v) (sound→can-run plan (begun v .state) (can .can-run) (omega arith)) fitting)
 
     reached : Reached ours plan cs end
     reached =
         record {
-          within = omega (arith, all, kept .within);
+          in-total = omega (arith, all, kept .in-total);
           counted = chain-advance chain ∙ zero-add _;
-          goes-on = λ h r w p. step-number plan end (end .state .next .0) r w p ∙ next-number plan end (end .state .next .0) ready (omega (arith, all)) refl;
+          goes-on = λ h r w p.
+              let next = end .state .next .0 in
+              step-number plan end next r w p ∙ next-number plan end next ready (omega (arith, all)) refl;
           runs-on = λ q r w p. p .number ∙ ready-run plan end ready;
         }
 
@@ -112,30 +113,31 @@ module _ (plan : Plan) (can : Runnable plan) where
   carries =
       record {
         steps = all ∙ ap₂ (λ (each passes : ℕ). each * passes) (pass-twice (routeOf plan) (sound-allowed plan (can .can-run))) (route-length plan);
-        one-block = one-step plan (can .room) (can .can-run);
-        lines = reached;
+        one-block = one-step plan can;
+        chains = reached;
       }
 
 -- ---- a plan that performs an order, whoever made it
 
 module _ (order : Order) (plan : Plan) (does : Performs order plan) where
-  pub performs : (x : ℕ) → x < records (plan .geometry) → performed (routeOf plan .passes) x ≡ target (matrixOf order) (order .complement) x
-  unfolding target
+  performs : (x : ℕ) → x < records (plan .geometry) → performed (routeOf plan .passes) x ≡ sentTo order x
   performs x h = does .takes x (subst (λ (g : Geometry). x < records g) (does .on-its-bank) h)
 
-  delivers : (v : Buffers) → fits (plan .geometry) v ≡ true → (cs : List Called) (end : Moment) → Chain ours plan (begun v) cs end → end .state .next .0 ≡ totalSteps plan
-      → (x : ℕ) → x < records (plan .geometry)
-      → recordOf (plan .geometry .r) (areaNamed (resultArea plan) (end .buffers)) (sentTo order x) ≡ recordOf (plan .geometry .r) (v .area0) x
-  unfolding target
-  delivers v fitting cs end chain ends x h =
-      ap (λ (area : List ℕ). recordOf (plan .geometry .r) area (sentTo order x)) (area-is plan (end .buffers) ∙ ap (λ (k : ℕ). areaOf k (end .buffers)) (sym (route-length plan)))
-      ∙ delivered plan (sound→runs plan (does .runs .room) (does .runs .can-run)) (matrixOf order) (order .complement) performs v fitting end
-      (kept plan (does .runs) v fitting cs end chain) (ends ∙ all plan (does .runs)) x h
+  -- what is to be delivered, if the bank is g
+  abbrev OnBank : Geometry → Type 0
+  OnBank g =
+      (v : Buffers) → buffersFit g v ≡ true → (cs : List Called) (end : Moment) → Chain ours plan (beginning ours v) cs end
+      → end .state .next .0 ≡ ours .total plan → (x : ℕ) → x < records g
+      → recordOf (g .r) (areaNamed (ours .area plan) (end .buffers)) (sentTo order x) ≡ recordOf (g .r) (v .area0) x
 
-  pub foreign-delivers : Delivered ours order plan
-  foreign-delivers v fitting cs end chain ends x h =
-      subst (λ (g : Geometry). recordOf (g .r) (areaNamed (resultArea plan) (end .buffers)) (sentTo order x) ≡ recordOf (g .r) (v .area0) x) (does .on-its-bank)
-      (delivers v (subst (λ (g : Geometry). fits g v ≡ true) (sym (does .on-its-bank)) fitting) cs end chain ends x (subst (λ (g : Geometry). x < records g) (sym (does .on-its-bank)) h))
+  delivers : OnBank (plan .geometry)
+  delivers v fitting cs end chain ends x h =
+      rw (area-is plan (end .buffers), ← route-length plan)
+      (delivered plan (sound→runs plan (does .runs .room) (does .runs .can-run)) (matrixOf order) (order .complement) performs v fitting end
+      (kept plan (does .runs) v fitting cs end chain) (ends ∙ all plan (does .runs)) x h)
+
+  foreign-delivers : Delivered ours order plan
+  foreign-delivers = subst OnBank (does .on-its-bank) delivers
 
 pub ours-foreign : DeliversForeign ours
 ours-foreign = foreign-delivers
@@ -148,7 +150,6 @@ module _ (order : Order) (room : length (order .rows) ≡ ROWS) (taken : judgeme
   own-room = ap (λ (a : Planned). length (a .plan .rows)) (planned-taken order taken) ∙ listed-length _ (PASSES * ROWS) 0
 
   own-performs : Performs order (plannedFor order .plan)
-  unfolding target
   own-performs =
       let k = made-accepted order room taken in
       record { on-its-bank = k .on-its-bank; runs = record { can-run = k .sound-plan; room = own-room }; takes = k .performs }
@@ -171,7 +172,7 @@ ours-delivers =
       repeats = ours-repeats;
     }
 
-pub ours-counts : Counts ours
+pub ours-counts : PassCounts ours
 ours-counts =
     record {
       performs = own-performs;

@@ -3,9 +3,9 @@ pub mod Numbers
 pub mod Answers
 pub mod Sends
 pub mod OneStep
+pub mod Chains
 pub mod Repeats
 pub mod Delivers
-pub mod Lines
 pub mod Demands
 pub mod Small
 pub mod Useless

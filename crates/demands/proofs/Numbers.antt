@@ -13,16 +13,15 @@ use Rattle.planning.specs.declared.Plan.{Plan}
 use Rattle.planning.specs.Pass.{total}
 use Rattle.planning.specs.Stored.{routeOf}
 use Rattle.planning.proofs.Running.{can-run→sound}
-use Rattle.plan.specs.Total.{totalSteps}
 use Rattle.mover.proofs.Asked.{total-is}
 use Rattle.moving.specs.Call.{Moment, runNumber, stepNumber, turnNumber}
 use Rattle.moving.proofs.Calls.{Stuck, Unfit, again-turn, apart-turn, by-checks, by-turn, next-turn, past-turn, ready-number, stuck-number, unfit-number}
 use Rattle.mover.specs.declared.step.Stepped.{Stepped}
 use Rattle.mover.specs.declared.run.Ran.{Ran}
 use Rattle.mover.specs.Promise.{numberOf}
-use Rattle.text.specs.Reading.{Reads, Whole}
-use Rattle.text.specs.Reading.Reads.{no-first-line, outside, no-rest, singular, taken}
-use Rattle.text.proofs.Main.{one-reading, only-text, read-written}
+use Rattle.reading.specs.Reading.{Reads, Whole}
+use Rattle.reading.specs.Reading.Reads.{no-first-line, outside, no-rest, singular, taken}
+use Rattle.reading.proofs.Main.{one-reading, only-text, read-written}
 use Rattle.demands.specs.Ours.{ours}
 use Rattle.demands.specs.Numbers.{Asked, Inside, Numbers, Outside, Ready, RunNumbers, StepNumbers, TextNumbers, Unreadable}
 use Rattle.demands.proofs.Promised.{step-number}
@@ -45,7 +44,11 @@ module _ (plan : Plan) (m : Moment) where
   unfolding runNumber
   run-numbers r is =
       let gives = exactly runDue is run-due in
-      record { gives-7 = gives 7 (stuck-number plan m 0); gives-4 = gives 4 (unfit-number plan m 0); gives-0 = gives 0 (λ d. ready-number plan m 0 (d .0) (d .1)) }
+      record {
+        gives-7 = gives 7 (stuck-number plan m 0);
+        gives-4 = gives 4 (unfit-number plan m 0);
+        gives-0 = gives 0 (λ d. ready-number plan m 0 (d .0) (d .1));
+      }
 
 -- ---- a step
 
@@ -57,17 +60,17 @@ module _ (plan : Plan) (m : Moment) (k : ℕ) where
   stepDue j =
       cond (eqb j 7) (Stuck plan m)
       (cond (eqb j 4) (Unfit plan m)
-      (cond (eqb j 6) (Ready plan m × (totalSteps plan ≤ k))
+      (cond (eqb j 6) (Ready plan m × (ours .total plan ≤ k))
       (cond (eqb j 0) (Asked ours plan m k × (k ≡ next))
       (cond (eqb j 9) (Asked ours plan m k × (k + 1 ≡ next))
       (cond (eqb j 5) (Asked ours plan m k × (k ≡ next → ⊥) × (k + 1 ≡ next → ⊥)) ⊥)))))
 
-  turn-is : Ready plan m → turnNumber (totalSteps plan) next k ≡ turnNumber (total (routeOf plan)) next k
-  turn-is r = ap (λ (all : ℕ). turnNumber all next k) (total-is plan (can-run→sound plan (m .state) (r .0)))
+  once-is : Ready plan m → turnNumber (ours .total plan) next k ≡ turnNumber (total (routeOf plan)) next k
+  once-is r = ap (λ (all : ℕ). turnNumber all next k) (total-is plan (can-run→sound plan (m .state) (r .0)))
 
-  ready-step : Ready plan m → stepNumber plan m k ≡ turnNumber (totalSteps plan) next k
+  ready-step : Ready plan m → stepNumber plan m k ≡ turnNumber (ours .total plan) next k
   unfolding stepNumber
-  ready-step r = ready-number plan m (turnNumber (total (routeOf plan)) next k) (r .0) (r .1) ∙ sym (turn-is r)
+  ready-step r = ready-number plan m (turnNumber (total (routeOf plan)) next k) (r .0) (r .1) ∙ sym (once-is r)
 
   step-due : stepDue (stepNumber plan m k)
   unfolding stepNumber
@@ -75,15 +78,15 @@ module _ (plan : Plan) (m : Moment) (k : ℕ) where
     where
       turn-due : Ready plan m → stepDue (turnNumber (total (routeOf plan)) next k)
       turn-due r =
-          subst stepDue (turn-is r)
-          (by-turn (totalSteps plan) next k stepDue (λ h. (r, h)) (λ h e. ((r, h), e)) (λ h e. ((r, h), e)) (λ a. ((r, a .0), a .1, a .2)))
+          subst stepDue (once-is r)
+          (by-turn (ours .total plan) next k stepDue (λ h. (r, h)) (λ h e. ((r, h), e)) (λ h e. ((r, h), e)) (λ a. ((r, a .0), a .1, a .2)))
 
   step-numbers : (r : Stepped) → numberOf r ≡ stepNumber plan m k → StepNumbers ours plan m k r
   unfolding stepNumber
   step-numbers r is =
       let gives = exactly stepDue is step-due in
       let turn = turnNumber (total (routeOf plan)) next k in
-      let all = totalSteps plan in
+      let all = ours .total plan in
       record {
         gives-7 = gives 7 (stuck-number plan m turn);
         gives-4 = gives 4 (unfit-number plan m turn);

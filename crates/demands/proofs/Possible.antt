@@ -1,10 +1,11 @@
--- Why do the demands speak of something? An order that moves something is taken, and a line with repeats and refused calls comes to the end. Assumes nothing.
+-- Why do the demands speak of something? An order that moves something is taken, and a chain with repeats and refused calls
+-- comes to the end. Assumes nothing.
 use mathlib.Core.Path.{_≡_, refl, sym, ap, _∙_, subst}
 use mathlib.Core.Bool.{true, false, cond, not, _&&_}
 use mathlib.Core.Logic.{⊎-elim}
 use mathlib.Core.List.{List, [], _∷_, _++_}
 use Prim.Native.Nat.{ℕ, zero, suc, _+_, _-_, _^_, _≤_, _<_}
-use native.Mathlib.Nat.{add-assoc, le-refl, zero-add}
+use native.Mathlib.Nat.{le-refl}
 use native.Mathlib.Omega.{arith}
 use borrow.Author.Tests.{eq-eqb, le-leb, lt-leb}
 use lib.Bits.{bitXor}
@@ -16,7 +17,7 @@ use Rattle.bank.specs.Limits.{ROWS}
 use Rattle.bank.specs.declared.Geometry.{Geometry}
 use Rattle.bank.specs.Geometry.{inLimits, records}
 use Rattle.bank.proofs.Limits.{limits→allowed}
-use Rattle.algebra.specs.Matrix.{identity, singular}
+use Rattle.algebra.specs.Matrix.{identity, singular, target}
 use Rattle.algebra.proofs.Search.{none-intro, le-or-lt}
 use Rattle.algebra.proofs.Lists.{getD-zeros}
 use Rattle.algebra.proofs.Linear.{apply-zero}
@@ -25,20 +26,20 @@ use Rattle.algebra.proofs.Columns.{identity-at, identity-length}
 use Rattle.order.specs.Order.{matrixOf, badForm, judgement, strayRow, strayComplement, spareRow}
 use Rattle.order.proofs.Judged.{regular-none}
 use Rattle.planning.specs.declared.Plan.{Plan}
-use Rattle.moving.specs.Step.{Buffers, fits}
+use Rattle.moving.specs.Step.{Buffers, buffersFit}
 use Rattle.moving.specs.Call.{Moment}
 use Rattle.mover.specs.declared.step.Stepped.{Stepped}
 use Rattle.mover.specs.Promise.{numberOf, stateOf}
 use Rattle.demands.specs.Mover.{Mover, beginning}
-use Rattle.demands.specs.Chain.{Called, Chain, newSteps, between}
+use Rattle.demands.specs.Chain.{Called, Chain, newSteps, momentOf}
 use Rattle.demands.specs.Chain.Called.{asked, allowed, strayAsked, strayAllowed}
-use Rattle.demands.specs.Chain.Chain.{none, step, run, strayStep, strayRun}
+use Rattle.demands.specs.Chain.Chain.{noCalls, step, run, strayStep, strayRun}
 use Rattle.demands.specs.Numbers.{Ready, StepNumbers}
 use Rattle.demands.specs.Answers.{Answers}
-use Rattle.demands.specs.Sends.{sentTo}
 use Rattle.demands.specs.Delivers.{Reached}
-use Rattle.demands.specs.Possible.{Call, Comes, Possible, again, busyLine, callsOf, flipOrder, inTurn}
+use Rattle.demands.specs.Possible.{Call, Comes, Possible, again, busyCalls, callsOf, flipOrder, inTurn}
 use Rattle.demands.specs.Possible.Call.{asks, runs}
+use Rattle.order.specs.Address.{sentTo}
 
 -- ---- an order that is taken and moves something
 
@@ -81,12 +82,13 @@ module _ (g : Geometry) where
     flip-taken = regular-none (flipOrder g) inside flip-form (ap (singular (g .n)) flip-matrix ∙ identity-regular (g .n))
 
     flip-moves : sentTo (flipOrder g) 0 ≡ 1
+    unfolding target
     flip-moves = ap (λ (k : ℕ). bitXor k 1) (apply-zero (matrixOf (flipOrder g)))
 
 -- ---- a chain and another from where it ended
 
 joined : {M : Mover} {plan : Plan} {m mid end : Moment} {cs ds : List Called} → Chain M plan m cs mid → Chain M plan mid ds end → Chain M plan m (cs ++ ds) end
-joined none d = d
+joined noCalls d = d
 joined (step k r p c) d = step k r p (joined c d)
 joined (run q r p c) d = run q r p (joined c d)
 joined (strayStep stray k r p f c) d = strayStep stray k r p f (joined c d)
@@ -94,13 +96,13 @@ joined (strayRun stray q r p f c) d = strayRun stray q r p f (joined c d)
 
 joined-steps : (cs ds : List Called) → newSteps (cs ++ ds) ≡ newSteps cs + newSteps ds
 unfolding newSteps
-joined-steps [] ds = sym (zero-add _)
-joined-steps (asked k r ∷ cs) ds = ap (λ (n : ℕ). cond (eqb (numberOf r) 0) 1 0 + n) (joined-steps cs ds) ∙ sym (add-assoc _ (newSteps cs) (newSteps ds))
-joined-steps (allowed q r ∷ cs) ds = ap (λ (n : ℕ). r .count + n) (joined-steps cs ds) ∙ sym (add-assoc _ (newSteps cs) (newSteps ds))
+joined-steps [] ds = omega arith
+joined-steps (asked k r ∷ cs) ds = omega (arith, joined-steps cs ds)
+joined-steps (allowed q r ∷ cs) ds = omega (arith, joined-steps cs ds)
 joined-steps (strayAsked stray k r ∷ cs) ds = joined-steps cs ds
 joined-steps (strayAllowed stray q r ∷ cs) ds = joined-steps cs ds
 
--- ---- a line comes to the end: it is built from its end on
+-- ---- a chain comes to the end: it is built from its end on
 
 -- the moment m, come to from the start by calls that did j steps
 record Here (M : Mover) (plan : Plan) (v : Buffers) (j : ℕ) (m : Moment) : Type 0 where
@@ -109,35 +111,34 @@ record Here (M : Mover) (plan : Plan) (v : Buffers) (j : ℕ) (m : Moment) : Typ
   done : m .state .next .0 ≡ j
 
 -- from m on, these calls come to the end
-record Ahead (M : Mover) (plan : Plan) (m : Moment) (line : List Call) : Type 0 where
+record Ahead (M : Mover) (plan : Plan) (m : Moment) (ahead : List Call) : Type 0 where
   calls : List Called
   end : Moment
   chain : Chain M plan m calls end
-  these : callsOf calls ≡ line
+  own : callsOf calls ≡ ahead
   there : end .state .next .0 ≡ M .total plan
 
 module _ (M : Mover) (answers : Answers M) (plan : Plan) (v : Buffers)
-    (lines : (cs : List Called) (end : Moment) → Chain M plan (beginning M v) cs end → Reached M plan cs end) where
+    (chains : (cs : List Called) (end : Moment) → Chain M plan (beginning M v) cs end → Reached M plan cs end) where
   -- wherever j steps are done, these calls come to the end
   abbrev Onward : ℕ → List Call → Type 0
-  Onward j line = (m : Moment) → Here M plan v j m → Ahead M plan m line
+  Onward j these = (m : Moment) → Here M plan v j m → Ahead M plan m these
 
   -- a run with no allowance is not refused, so no call is refused by 7 or 4
   ready : {j : ℕ} {m : Moment} → Here M plan v j m → Ready plan m
   ready {m = m} here =
       let r = answers .run-some plan m 0 in
-      answers .numbered .of-run plan m 0 (r .0) (r .1) (r .2) .gives-0 .0 (lines (here .calls) m (here .chain) .runs-on 0 (r .0) (r .1) (r .2))
+      answers .numbered .of-run plan m 0 (r .0) (r .1) (r .2) .gives-0 .0 (chains (here .calls) m (here .chain) .runs-on 0 (r .0) (r .1) (r .2))
 
   -- more calls: the steps that they did are added
   further : {j : ℕ} {m : Moment} → Here M plan v j m → (ds : List Called) (n : Moment) → Chain M plan m ds n → (i : ℕ) → j + newSteps ds ≡ i → Here M plan v i n
   further {m = m} here ds n d i e =
       let c = joined (here .chain) d in
+      let counted = chains (here .calls) m (here .chain) .counted in
       record {
         calls = here .calls ++ ds;
         chain = c;
-        done =
-            lines _ n c .counted ∙ joined-steps (here .calls) ds
-            ∙ ap (λ (k : ℕ). k + newSteps ds) (sym (lines (here .calls) m (here .chain) .counted) ∙ here .done) ∙ e;
+        done = omega (arith, chains (here .calls ++ ds) n c .counted, joined-steps (here .calls) ds, counted, here .done);
       }
 
   -- a step is asked whose number is known: only 0 does one more
@@ -147,13 +148,13 @@ module _ (M : Mover) (answers : Answers M) (plan : Plan) (v : Buffers)
   asks-on number k j i numbered e on m here =
       let r = answers .step-some plan m k in
       let z = numbered m here (r .0) (answers .numbered .of-step plan m k (r .0) (r .1) (r .2)) in
-      let n = between (stateOf (r .0)) (r .1) in
-      let a = on n (further here (asked k (r .0) ∷ []) n (step k (r .0) (r .2) none) i (ap (λ (s : ℕ). j + (cond (eqb s 0) 1 0 + 0)) z ∙ omega (arith, e))) in
+      let n = momentOf (stateOf (r .0)) (r .1) in
+      let a = on n (further here (asked k (r .0) ∷ []) n (step k (r .0) (r .2) noCalls) i (rw z (omega arith))) in
       record {
         calls = asked k (r .0) ∷ a .calls;
         end = a .end;
         chain = step k (r .0) (r .2) (a .chain);
-        these = ap (_∷_ (asks k)) (a .these);
+        own = ap (_∷_ (asks k)) (a .own);
         there = a .there;
       }
 
@@ -177,28 +178,28 @@ module _ (M : Mover) (answers : Answers M) (plan : Plan) (v : Buffers)
   runs-all : (j : ℕ) → Onward j (runs (M .total plan) ∷ [])
   unfolding newSteps callsOf
   runs-all j m here =
-      let r = answers .run-some plan m (M .total plan) in
-      let at = lines (here .calls) m (here .chain) in
-      let n = between (r .0 .state) (r .1) in
-      let c = run (M .total plan) (r .0) (r .2) none in
+      let all = M .total plan in
+      let r = answers .run-some plan m all in
+      let at = chains (here .calls) m (here .chain) in
+      let did = answers .run-done plan m all (r .0) (r .1) (r .2) (at .runs-on all (r .0) (r .1) (r .2)) in
+      let n = momentOf (r .0 .state) (r .1) in
+      let c = run all (r .0) (r .2) noCalls in
       record {
-        calls = allowed (M .total plan) (r .0) ∷ [];
+        calls = allowed all (r .0) ∷ [];
         end = n;
         chain = c;
-        these = refl;
-        there =
-            further here (allowed (M .total plan) (r .0) ∷ []) n c (M .total plan)
-            (omega (arith, at .within, here .done, answers .run-done plan m (M .total plan) (r .0) (r .1) (r .2) (at .runs-on (M .total plan) (r .0) (r .1) (r .2)) .0)) .done;
+        own = refl;
+        there = further here (allowed all (r .0) ∷ []) n c all (omega (arith, at .in-total, here .done, did .0)) .done;
       }
 
   start : Here M plan v 0 (beginning M v)
   unfolding newSteps
-  start = record { calls = []; chain = none; done = lines [] (beginning M v) none .counted }
+  start = record { calls = []; chain = noCalls; done = chains [] (beginning M v) noCalls .counted }
 
-  busy-comes : (k : ℕ) → k ≤ M .total plan → (more : ℕ → ℕ) → Comes M plan v (busyLine (M .total plan) k more)
+  busy-comes : (k : ℕ) → k ≤ M .total plan → (more : ℕ → ℕ) → Comes M plan v (busyCalls (M .total plan) k more)
   busy-comes k h more =
       let a = asks-past 0 (asks-in-turn more k 0 (omega arith) (λ i. asks-past i (runs-all i))) (beginning M v) start in
-      record { calls = a .calls; end = a .end; chain = a .chain; these = a .these; there = a .there }
+      record { calls = a .calls; end = a .end; chain = a .chain; own = a .own; there = a .there }
 
 pub possible : Possible
 possible =
@@ -208,5 +209,5 @@ possible =
       comes = λ M answers delivers order room taken v fitting.
           let own = delivers .own order room taken in
           busy-comes M answers (M .plans order .plan) v
-          (delivers .carries (M .plans order .plan) (own .runs) .lines v (subst (λ (g : Geometry). fits g v ≡ true) (sym (own .on-its-bank)) fitting));
+          (delivers .carries (M .plans order .plan) (own .runs) .chains v (subst (λ (g : Geometry). buffersFit g v ≡ true) (sym (own .on-its-bank)) fitting));
     }

@@ -4,7 +4,6 @@ use mathlib.Core.Bool.{true}
 use Prim.Native.Nat.{ℕ}
 use borrow.Author.Tests.{ne-eqb}
 use Rattle.planning.specs.declared.Plan.{Plan}
-use Rattle.planning.specs.declared.state.State.{State}
 use Rattle.moving.specs.Step.{Buffers}
 use Rattle.moving.specs.Call.{Moment, ran, refuses, runCount, runNumber, stepNumber, stepped}
 use Rattle.moving.proofs.Calls.{refused-count, refused-keeps, refused-run}
@@ -12,7 +11,7 @@ use Rattle.mover.specs.declared.step.Stepped.{Stepped}
 use Rattle.mover.specs.declared.run.Ran.{Ran}
 use Rattle.mover.specs.Promise.{StepPromise, RunPromise, caseOf, numberOf, stateOf}
 use Rattle.mover.proofs.Main.{case-number, case-state}
-use Rattle.demands.specs.Chain.{Stray, returned, strayed, between}
+use Rattle.demands.specs.Chain.{momentOf}
 
 -- ---- a step
 
@@ -31,10 +30,10 @@ module _ (plan : Plan) (m : Moment) (k : ℕ) where
     pub step-state : stateOf r ≡ stepped plan m k .state
     step-state = ap stateOf (p .answered) ∙ case-state _ _
 
-    pub step-moment : between (stateOf r) w ≡ stepped plan m k
-    step-moment = ap₂ between step-state (p .bytes)
+    pub step-moment : momentOf (stateOf r) w ≡ stepped plan m k
+    step-moment = ap₂ momentOf step-state (p .bytes)
 
-    pub step-refused : refuses (numberOf r) ≡ true → between (stateOf r) w ≡ m
+    pub step-refused : refuses (numberOf r) ≡ true → momentOf (stateOf r) w ≡ m
     step-refused f = step-moment ∙ refused-keeps plan m k (ap refuses (sym step-number) ∙ f)
 
 -- ---- a run
@@ -47,15 +46,9 @@ module _ (plan : Plan) (m : Moment) (q : ℕ) where
   run-promised = record { number = refl; count = refl; state′ = refl; bytes = refl }
 
   module _ (r : Ran) (w : Buffers) (p : RunPromise plan m q r w) where
-    pub run-moment : between (r .state) w ≡ ran plan m q
-    run-moment = ap₂ between (p .state′) (p .bytes)
+    pub run-moment : momentOf (r .state) w ≡ ran plan m q
+    run-moment = ap₂ momentOf (p .state′) (p .bytes)
 
-    pub run-refused : (r .number ≡ 0 → ⊥) → (r .count ≡ 0) × (between (r .state) w ≡ m)
+    pub run-refused : (r .number ≡ 0 → ⊥) → (r .count ≡ 0) × (momentOf (r .state) w ≡ m)
     run-refused f =
         let e = ne-eqb (runNumber plan m) 0 (λ e. f (p .number ∙ e)) in (p .count ∙ refused-count plan m q e, run-moment ∙ refused-run plan m q e)
-
--- ---- another's call that changes nothing gives the line's bytes back as they were
-
-pub given-back : (stray : Stray) (m : Moment) {state : State} (w : Buffers) → between state w ≡ strayed stray m → returned stray m w ≡ m
-given-back stray m w e =
-    ap (λ (n : Moment). between (m .state) (stray .back (m .buffers) (n .buffers))) e ∙ ap (between (m .state)) (stray .unchanged (m .buffers))

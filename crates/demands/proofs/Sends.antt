@@ -7,7 +7,7 @@ use native.Mathlib.Omega.{arith}
 use lib.Dec.{eqb}
 use lib.ListN.{length}
 use Rattle.algebra.proofs.Search.{le-or-lt, same-or}
-use Rattle.algebra.specs.Matrix.{singular, target}
+use Rattle.algebra.specs.Matrix.{singular}
 use Rattle.bank.specs.Geometry.{inLimits, records}
 use Rattle.bank.specs.Limits.{ROWS}
 use Rattle.order.specs.declared.Order.{Order}
@@ -35,13 +35,12 @@ module _ (order : Order) where
       (cond (eqb j 0) (Formed order × (SharedTarget order → ⊥)) ⊥)))
 
   shared-three : Formed order × SharedTarget order → judgement order ≡ 3
-  unfolding target
   shared-three d =
       let s = d .1 in
-      shared-target→three order (d .0 .0) (d .0 .1) (record { x = s .x; y = s .y; x-lt = s .x-below; y-lt = s .y-below; apart = s .different; same = s .shared })
+      shared-target→three order (d .0 .0) (d .0 .1)
+      (record { x = s .x; y = s .y; x-lt = s .x-below; y-lt = s .y-below; apart = s .different; same = s .shared })
 
   three-shares : Formed order → judgement order ≡ 3 → SharedTarget order
-  unfolding target
   three-shares f e =
       let k = three→shared-target order (f .0) (f .1) e in
       record { x = k .x; y = k .y; x-below = k .x-lt; y-below = k .y-lt; different = k .apart; shared = k .same }
@@ -103,7 +102,6 @@ module _ (order : Order) where
 
   -- ---- asked backwards
   only-source : length (order .rows) ≡ ROWS → judgement order ≡ 0 → (y : ℕ) → y < records (order .geometry) → OnlySource ours order y
-  unfolding target
   only-source room taken y h =
       let k = comes order room taken y h in
       record { x = k .from; given = λ answer p. p ∙ k .answer; below = k .below; goes = k .goes; only = k .only }

@@ -8,37 +8,37 @@ use lib.Count.{ones}
 use lib.ListN.{replicate}
 use Rattle.bank.specs.Limits.{PASSES, ROWS}
 use Rattle.bank.specs.declared.Geometry.{Geometry}
-use Rattle.bank.specs.Geometry.{inLimits, loadAt, stripeAt, stripes}
-use Rattle.algebra.specs.Search.{leastFrom, least, some, firstOf, which, listed}
-use Rattle.algebra.specs.Vector.{bit, parity, times, comb, units}
-use Rattle.algebra.specs.Matrix.{apply, target, columns, kills, singular, marked, source}
+use Rattle.bank.specs.Geometry.{inLimits, loadAt, tierAt, tiers}
+use Rattle.algebra.specs.Search.{leastFrom, least, anyBelow, firstOf, which, listed}
+use Rattle.algebra.specs.Vector.{bit, parity, unlessZero, comb, unitVectors}
+use Rattle.algebra.specs.Matrix.{applied, target, columns, kills, singular, marked, source, after, inverse}
 use Rattle.order.specs.declared.Order.{Order}
-use Rattle.order.specs.Order.{strayRow, strayComplement, spareRow, badForm, judgement}
+use Rattle.order.specs.Order.{strayRow, strayComplement, spareRow, badForm, judgement, formNumber}
+use Rattle.order.specs.Address.{sentTo}
 use Rattle.planning.specs.declared.Plan.{Plan}
 use Rattle.planning.specs.declared.Phase.the-variants.{Reads}
 use Rattle.planning.specs.declared.state.State.{State}
 use Rattle.planning.specs.Pass.{Route, complemented, loadSteps, passSteps, phases, total}
-use Rattle.planning.specs.Columns.{after, adding, undone, phi, delta, zeroColumn, onlyMarked}
-use Rattle.planning.specs.Making.{reached, chosen, unmarked, mate, step1, summands, step2, operations, busy, rounds, firstAfter, passMatrices, passesFor}
+use Rattle.planning.specs.Columns.{adding, phi, delta, zeroColumn, onlyMarked}
+use Rattle.planning.specs.Making.{reached, chosen, unmarked, partner, step1, summands, step2, operations, busy, rounds, firstAfter, passMatrices, passesFor}
 use Rattle.planning.specs.Running.{countInLimits, sound}
 use Rattle.planning.specs.Stored.{planFor, planOf, routeOf, storedComplements, storedPass, storedRows}
 use Rattle.plan.specs.declared.make.Planned.{Planned}
 use Rattle.plan.specs.Answer.{plannedFor}
-use Rattle.plan.specs.Total.{totalSteps}
+use Rattle.running.specs.Total.{totalSteps}
 use Rattle.plan.proofs.Answered.{planned-taken}
 use Rattle.plan.proofs.Main.{made-accepted}
 use Rattle.moving.specs.Bytes.{copied, each, eachFrom}
-use Rattle.moving.specs.Number.{loadOf, passOf, phaseOf, turnOf}
-use Rattle.moving.specs.Step.{Buffers, fits, move, moves, readFrom, readMove, readTakes, writeFrom, writeMove, writeTakes}
+use Rattle.moving.specs.Number.{loadOf, passOf, phaseOf, tierOf}
+use Rattle.moving.specs.Step.{Buffers, buffersFit, move, movesFrom, readFrom, readMove, readTakes, writeFrom, writeMove, writeTakes}
 use Rattle.moving.specs.Call.{Moment, begun, ran, runCount, runNumber, stepNumber, stepped}
-use Rattle.moving.proofs.Calls.{Ready, again-number, next-number, ready-run, run-count, run-next, step-done, step-nine}
+use Rattle.moving.proofs.Calls.{CallReady, again-number, next-number, ready-run, run-count, run-next, step-done, step-nine}
 use Rattle.moving.proofs.Kept.{kept-begun, kept-run}
 use Rattle.mover.specs.declared.run.Ran.{Ran}
 use Rattle.mover.specs.declared.step.Stepped.the-variants.{Again, Done}
 use Rattle.mover.specs.Promise.{RunPromise, StepPromise, caseOf}
-use Rattle.demands.specs.Chain.{between}
+use Rattle.demands.specs.Chain.{momentOf}
 use Rattle.demands.specs.Delivers.{Runnable}
-use Rattle.demands.specs.Sends.{sentTo}
 
 -- ---- the order: n 2, b 0, d 0, m 1, R 1; 0 and 1 change places, 2 and 3 stay
 
@@ -49,11 +49,11 @@ abbrev pub small : Order
 small = record { geometry = bank; rows = 3 ∷ 2 ∷ replicate (ROWS - 2) 0; complement = 1 }
 
 pub small-taken : judgement small ≡ 0
-unfolding ones inLimits leastFrom least some parity apply kills singular strayRow strayComplement spareRow badForm judgement
+unfolding ones inLimits leastFrom least anyBelow parity applied kills singular strayRow strayComplement spareRow badForm formNumber judgement
 small-taken = refl
 
 pub sent-0 : sentTo small 0 ≡ 1
-unfolding ones parity apply
+unfolding ones parity applied target
 sent-0 = refl
 
 -- ---- its plan: one pass, and so 8 steps
@@ -62,9 +62,9 @@ abbrev pub plan : Plan
 plan = record { geometry = bank; count = 1; rows = 3 ∷ 2 ∷ replicate (PASSES * ROWS - 2) 0; complements = 1 ∷ replicate (PASSES - 1) 0 }
 
 pub small-plan : plannedFor small .plan ≡ plan
-unfolding ones leastFrom least some firstOf which listed bit parity times comb units apply columns marked complemented after adding undone phi delta
-    zeroColumn onlyMarked reached chosen unmarked mate step1 summands step2 operations busy rounds firstAfter passMatrices passesFor planFor planOf storedRows
-    storedComplements
+unfolding ones leastFrom least anyBelow firstOf which listed bit parity unlessZero comb unitVectors applied columns marked complemented after
+    adding source target inverse phi delta zeroColumn onlyMarked reached chosen unmarked partner step1 summands step2 operations busy rounds
+    firstAfter passMatrices passesFor planFor planOf storedRows storedComplements
 small-plan = ap (λ (a : Planned). a .plan) (planned-taken small small-taken)
 
 pub small-sound : sound plan ≡ true
@@ -102,19 +102,19 @@ end = record { area0 = 1 ∷ 2 ∷ 3 ∷ 4 ∷ []; area1 = 2 ∷ 1 ∷ 3 ∷ 4 �
 abbrev pub atStep : ℕ → State
 atStep k = record { next = record { 0 = k } }
 
-pub start-fits : fits bank start ≡ true
-unfolding fits
+pub start-fits : buffersFit bank start ≡ true
+unfolding buffersFit
 start-fits = refl
 
-ready : (k a b : ℕ) → k ≤ 8 → Ready plan (between (atStep k) (holding a b))
+ready : (k a b : ℕ) → k ≤ 8 → CallReady plan (momentOf (atStep k) (holding a b))
 ready k a b h =
-    record { sound-plan = small-sound; within = omega (arith, route-eight); fitting = record { area0-long = refl; area1-long = refl; memory-long = refl } }
+    record { sound-plan = small-sound; in-total = omega (arith, route-eight); fitting = record { area0-long = refl; area1-long = refl; memory-long = refl } }
 
 -- all its steps, and a run of them
-pub moved-all : moves (routeOf plan) (totalSteps plan) start ≡ end
-unfolding moves move readMove readTakes readFrom writeMove writeTakes writeFrom copied each eachFrom passOf loadOf phaseOf turnOf passSteps loadSteps phases
-    stripes stripeAt loadAt source apply target parity ones leastFrom least
-moved-all = ap₂ (λ (r : Route) (k : ℕ). moves r k start) small-route eight
+pub moved-all : movesFrom (move (routeOf plan)) 0 (totalSteps plan) start ≡ end
+unfolding movesFrom move readMove readTakes readFrom writeMove writeTakes writeFrom copied each eachFrom passOf loadOf phaseOf tierOf passSteps loadSteps phases
+    tiers tierAt loadAt source applied target parity ones leastFrom least
+moved-all = ap₂ (λ (r : Route) (k : ℕ). movesFrom (move r) 0 k start) small-route eight
 
 abbrev pub ended : Ran
 ended = record { number = 0; count = 8; state = atStep 8 }
@@ -125,7 +125,7 @@ run-promised =
       number = sym number;
       count = sym count;
       state′ = sym (ap atStep next);
-      bytes = sym (kept-run plan start (begun start) (kept-begun plan start) 8 .once ∙ ap (λ (k : ℕ). moves (routeOf plan) k start) (next ∙ sym eight) ∙ moved-all);
+      bytes = sym (kept-run plan start (begun start) (kept-begun plan start) 8 .once ∙ rw (next, ← eight) moved-all);
     }
   where
     number : runNumber plan (begun start) ≡ 0
@@ -140,20 +140,20 @@ run-promised =
 -- ---- step 0: byte 0 of memory becomes record 0
 
 pub reads-first : phaseOf (routeOf plan) 0 ≡ Reads
-unfolding routeOf phaseOf passSteps loadSteps phases stripes
+unfolding routeOf phaseOf passSteps loadSteps phases tiers
 reads-first = refl
 
-pub turn-first : turnOf (routeOf plan) 0 ≡ 0
-unfolding routeOf turnOf passSteps loadSteps phases stripes
-turn-first = refl
+pub tier-first : tierOf (routeOf plan) 0 ≡ 0
+unfolding routeOf tierOf passSteps loadSteps phases tiers
+tier-first = refl
 
 moved-first : (a b : ℕ) → move (routeOf plan) 0 (holding a b) ≡ holding 1 b
-unfolding move readMove readTakes readFrom copied each eachFrom passOf loadOf phaseOf turnOf passSteps loadSteps phases stripes stripeAt
+unfolding move readMove readTakes readFrom copied each eachFrom passOf loadOf phaseOf tierOf passSteps loadSteps phases tiers tierAt
 moved-first a b = ap (λ (r : Route). move r 0 (holding a b)) small-route
 
-done-by : (k n a b : ℕ) → stepNumber plan (between (atStep k) (holding a b)) 0 ≡ n
-    → stepped plan (between (atStep k) (holding a b)) 0 ≡ between (atStep 1) (move (routeOf plan) 0 (holding a b))
-    → StepPromise plan (between (atStep k) (holding a b)) 0 (caseOf n (atStep 1)) (holding 1 b)
+done-by : (k n a b : ℕ) → stepNumber plan (momentOf (atStep k) (holding a b)) 0 ≡ n
+    → stepped plan (momentOf (atStep k) (holding a b)) 0 ≡ momentOf (atStep 1) (move (routeOf plan) 0 (holding a b))
+    → StepPromise plan (momentOf (atStep k) (holding a b)) 0 (caseOf n (atStep 1)) (holding 1 b)
 done-by k n a b number done =
     record {
       answered = sym (ap₂ caseOf number (ap (λ (m : Moment). m .state) done));
@@ -166,8 +166,8 @@ step-promised a b =
     let number = next-number plan (begun (holding a b)) 0 (ready 0 a b (omega arith)) (omega (arith, route-eight)) refl in
     done-by 0 0 a b number (step-done plan (begun (holding a b)) 0 number)
 
-pub again-promised : (a b : ℕ) → StepPromise plan (between (atStep 1) (holding a b)) 0 (Again (atStep 1)) (holding 1 b)
+pub again-promised : (a b : ℕ) → StepPromise plan (momentOf (atStep 1) (holding a b)) 0 (Again (atStep 1)) (holding 1 b)
 unfolding caseOf
 again-promised a b =
-    let number = again-number plan (between (atStep 1) (holding a b)) 0 (ready 1 a b (omega arith)) (omega (arith, route-eight)) refl in
-    done-by 1 9 a b number (step-nine plan (between (atStep 1) (holding a b)) 0 number)
+    let number = again-number plan (momentOf (atStep 1) (holding a b)) 0 (ready 1 a b (omega arith)) (omega (arith, route-eight)) refl in
+    done-by 1 9 a b number (step-nine plan (momentOf (atStep 1) (holding a b)) 0 number)

@@ -15,8 +15,8 @@ use Rattle.moving.specs.Call.{Moment, refuses}
 use Rattle.mover.specs.declared.step.Stepped.{Stepped}
 use Rattle.mover.specs.declared.run.Ran.{Ran}
 use Rattle.mover.specs.Promise.{numberOf, stateOf}
-use Rattle.text.specs.Listing.{listing}
-use Rattle.text.specs.Reading.{noOrder}
+use Rattle.listing.specs.Listing.{listing}
+use Rattle.reading.specs.Reading.{noOrder}
 use Rattle.demands.specs.Mover.{Mover}
 use Rattle.demands.specs.Numbers.{Numbers}
 

@@ -1,4 +1,5 @@
--- Which calls of a mover can follow one another, and what do they leave? A line of calls is a chain: each goes on from where the last one ended. Assumes nothing.
+-- Which calls of a mover can follow one another, and what do they leave? Calls are a chain: each goes on from where the last ended.
+-- Assumes nothing.
 use mathlib.Core.Path.{_≡_}
 use mathlib.Core.Bool.{true, cond}
 use mathlib.Core.List.{List, [], _∷_}
@@ -13,8 +14,8 @@ use Rattle.mover.specs.declared.run.Ran.{Ran}
 use Rattle.mover.specs.Promise.{numberOf, stateOf}
 use Rattle.demands.specs.Mover.{Mover}
 
--- who else calls: any plan, any state, and any bytes, the line's own in any order or part among them;
--- `back` is what the line's bytes are once the lent ones were given back, and those given back unchanged change nothing
+-- who else calls: any plan, any state, and any bytes, the chain's own in any order or part among them;
+-- `back` is what the chain's bytes are once the lent ones were given back, and those given back unchanged change nothing
 pub record Stray : Type 0 where
   pub plan : Plan
   pub state : State
@@ -22,31 +23,32 @@ pub record Stray : Type 0 where
   pub back : Buffers → Buffers → Buffers
   pub unchanged : (v : Buffers) → back v (lent v) ≡ v
 
--- a call and its answer: a step or a run of the line's plan, by its own state and on its own bytes; or a step or a run of another's
+-- a call and its answer: a step or a run of the chain's plan, by its own state and on its own bytes; or a step or a run of another's
 pub data Called : Type 0 where
   asked : ℕ → Stepped → Called
   allowed : ℕ → Ran → Called
   strayAsked : Stray → ℕ → Stepped → Called
   strayAllowed : Stray → ℕ → Ran → Called
 
--- what a line has between two calls: a state, and the bytes
-abbrev pub between : State → Buffers → Moment
-between state v = record { state = state; buffers = v }
+-- what there is between two calls: a state, and the bytes
+abbrev pub momentOf : State → Buffers → Moment
+momentOf state v = record { state = state; buffers = v }
 
--- what another's call sees, and what the line has once the lent bytes are given back
+-- what another's call sees
 abbrev pub strayed : Stray → Moment → Moment
-strayed stray m = between (stray .state) (stray .lent (m .buffers))
+strayed stray m = momentOf (stray .state) (stray .lent (m .buffers))
 
+-- what there is once the bytes that another's call was lent are given back
 abbrev pub returned : Stray → Moment → Buffers → Moment
-returned stray m w = between (m .state) (stray .back (m .buffers) w)
+returned stray m w = momentOf (m .state) (stray .back (m .buffers) w)
 
 -- from a moment to a moment by calls that the mover may answer so; another's call is refused
 pub data Chain (M : Mover) (plan : Plan) : Moment → List Called → Moment → Type 0 where
-  none : {m : Moment} → Chain M plan m [] m
+  noCalls : {m : Moment} → Chain M plan m [] m
   step : {m end : Moment} {w : Buffers} {cs : List Called} (k : ℕ) (answer : Stepped)
-      → M .step plan m k answer w → Chain M plan (between (stateOf answer) w) cs end → Chain M plan m (asked k answer ∷ cs) end
+      → M .step plan m k answer w → Chain M plan (momentOf (stateOf answer) w) cs end → Chain M plan m (asked k answer ∷ cs) end
   run : {m end : Moment} {w : Buffers} {cs : List Called} (q : ℕ) (answer : Ran)
-      → M .run plan m q answer w → Chain M plan (between (answer .state) w) cs end → Chain M plan m (allowed q answer ∷ cs) end
+      → M .run plan m q answer w → Chain M plan (momentOf (answer .state) w) cs end → Chain M plan m (allowed q answer ∷ cs) end
   strayStep : {m end : Moment} {w : Buffers} {cs : List Called} (stray : Stray) (k : ℕ) (answer : Stepped)
       → M .step (stray .plan) (strayed stray m) k answer w → refuses (numberOf answer) ≡ true
       → Chain M plan (returned stray m w) cs end → Chain M plan m (strayAsked stray k answer ∷ cs) end

@@ -2,14 +2,14 @@
 use mathlib.Core.Path.{_≡_}
 use mathlib.Core.Bool.{true}
 use mathlib.Core.List.{List, []}
-use Prim.Native.Nat.{ℕ, zero, suc, _+_, _-_, _*_, _/_, _<_, _≤_}
+use Prim.Native.Nat.{ℕ, zero, suc, _+_, _-_, _*_, _<_, _≤_}
 use lib.ListN.{length}
 use Rattle.bank.specs.Limits.{ROWS, PASSES}
-use Rattle.bank.specs.declared.Geometry.{Geometry}
-use Rattle.bank.specs.Geometry.{records, block, drives}
+use Rattle.bank.specs.Geometry.{stripes}
 use Rattle.algebra.specs.Matrix.{columns, rank}
 use Rattle.order.specs.declared.Order.{Order}
 use Rattle.order.specs.Order.{matrixOf}
+use Rattle.order.specs.Address.{sentTo}
 use Rattle.planning.specs.declared.Plan.{Plan}
 use Rattle.planning.specs.Pass.{performed}
 use Rattle.planning.specs.Columns.{phi}
@@ -17,7 +17,7 @@ use Rattle.planning.specs.Making.{dividedUp}
 use Rattle.planning.specs.Running.{sound}
 use Rattle.planning.specs.Stored.{routeOf}
 use Rattle.moving.specs.Bytes.{recordOf}
-use Rattle.moving.specs.Step.{Buffers, fits}
+use Rattle.moving.specs.Step.{Buffers, buffersFit}
 use Rattle.moving.specs.Call.{Moment}
 use Rattle.mover.specs.declared.step.Stepped.{Stepped}
 use Rattle.mover.specs.declared.run.Ran.{Ran}
@@ -26,7 +26,7 @@ use Rattle.demands.specs.Mover.{Mover, beginning}
 use Rattle.demands.specs.Chain.{Called, Chain, newSteps}
 use Rattle.demands.specs.OneStep.{OneStep}
 use Rattle.demands.specs.Repeats.{Repeats}
-use Rattle.demands.specs.Sends.{sentTo}
+use Rattle.demands.specs.Sends.{AddressOf}
 
 -- the area that a number names: 0 or 1, and no other
 unfoldable pub areaNamed : ℕ → Buffers → List ℕ
@@ -41,26 +41,26 @@ pub record Runnable (plan : Plan) : Type 0 where
   pub can-run : sound plan ≡ true
   pub room : length (plan .rows) ≡ PASSES * ROWS
 
--- N/(BD), the stripes of an area
-abbrev pub stripesIn : Geometry → ℕ
-stripesIn g = records g / (block g * drives g)
+-- 2N/(BD), the steps of a pass: a read and a write for each stripe
+abbrev pub stepsAPass : Plan → ℕ
+stepsAPass plan = let g = plan .geometry in stripes g + stripes g
 
 -- where a chain of the mover's calls has come from the fresh state
 pub record Reached (M : Mover) (plan : Plan) (cs : List Called) (end : Moment) : Type 0 where
   -- the steps never run past the total, and the state's next step says how many were done
-  pub within : end .state .next .0 ≤ M .total plan
+  pub in-total : end .state .next .0 ≤ M .total plan
   pub counted : end .state .next .0 ≡ newSteps cs
   -- the chain can go on: before the end the next step is done, and no run is refused
-  pub goes-on : end .state .next .0 < M .total plan → (r : Stepped) (w : Buffers) → M .step plan end (end .state .next .0) r w → numberOf r ≡ 0
+  pub goes-on : end .state .next .0 < M .total plan → (r : Stepped) (w : Buffers) → M .step plan end (end .state .next .0) r w
+      → numberOf r ≡ 0
   pub runs-on : (q : ℕ) (r : Ran) (w : Buffers) → M .run plan end q r w → r .number ≡ 0
 
 pub record Carries (M : Mover) (plan : Plan) : Type 0 where
-  -- 2N/(BD) steps a pass: a read and a write for each stripe
-  pub steps : M .total plan ≡ (stripesIn (plan .geometry) + stripesIn (plan .geometry)) * plan .count
+  pub steps : M .total plan ≡ stepsAPass plan * plan .count
   -- no step moves more than one block on a drive, and every other byte stays
   pub one-block : (k : ℕ) → k < M .total plan → OneStep M plan k
   -- any bytes of the right lengths, and any chain of calls
-  pub lines : (v : Buffers) → fits (plan .geometry) v ≡ true → (cs : List Called) (end : Moment)
+  pub chains : (v : Buffers) → buffersFit (plan .geometry) v ≡ true → (cs : List Called) (end : Moment)
       → Chain M plan (beginning M v) cs end → Reached M plan cs end
 
 -- ---- a plan for an order
@@ -69,14 +69,16 @@ pub record Carries (M : Mover) (plan : Plan) : Type 0 where
 -- the area that the mover names holds at Ax xor c the record that began at x, for every x
 abbrev pub Delivered : Mover → Order → Plan → Type 0
 Delivered M order plan =
-    (v : Buffers) → fits (order .geometry) v ≡ true → (cs : List Called) (end : Moment) → Chain M plan (beginning M v) cs end
-    → end .state .next .0 ≡ M .total plan → (x : ℕ) → x < records (order .geometry)
-    → recordOf (order .geometry .r) (areaNamed (M .area plan) (end .buffers)) (sentTo order x) ≡ recordOf (order .geometry .r) (v .area0) x
+    let g = order .geometry in
+    (v : Buffers) → buffersFit g v ≡ true → (cs : List Called) (end : Moment) → Chain M plan (beginning M v) cs end
+    → end .state .next .0 ≡ M .total plan → (x : ℕ) → AddressOf order x
+    → recordOf (g .r) (areaNamed (M .area plan) (end .buffers)) (sentTo order x) ≡ recordOf (g .r) (v .area0) x
 
 -- rank φ divided by m - b, rounded up
 abbrev pub roundsFor : Order → ℕ
 roundsFor order =
-    dividedUp (rank (phi (order .geometry .m) (columns (order .geometry .n) (matrixOf order))) (order .geometry .m)) (order .geometry .m - order .geometry .b)
+    let g = order .geometry in
+    dividedUp (rank (phi (g .m) (columns (g .n) (matrixOf order))) (g .m)) (g .m - g .b)
 
 -- the plan that the mover makes for an order
 pub record OwnPlan (M : Mover) (order : Order) : Type 0 where
@@ -100,7 +102,7 @@ pub record Delivers (M : Mover) : Type 0 where
 pub record Performs (order : Order) (plan : Plan) : Type 0 where
   pub on-its-bank : plan .geometry ≡ order .geometry
   pub runs : Runnable plan
-  pub takes : (x : ℕ) → x < records (order .geometry) → performed (routeOf plan .passes) x ≡ sentTo order x
+  pub takes : (x : ℕ) → AddressOf order x → performed (routeOf plan .passes) x ≡ sentTo order x
 
 -- the mover delivers by it all the same
 abbrev pub DeliversForeign : Mover → Type 0

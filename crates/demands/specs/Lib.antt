@@ -9,8 +9,8 @@ pub mod OneStep
 pub mod Repeats
 pub mod Delivers
 pub mod Demands
-pub mod Counts
-pub mod Lines
+pub mod PassCounts
+pub mod Chains
 pub mod Useless
 pub mod Possible
 pub mod Trials

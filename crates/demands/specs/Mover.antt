@@ -16,7 +16,7 @@ use Rattle.mover.specs.declared.run.Ran.{Ran}
 abbrev pub StepRule : Type 1
 StepRule = Plan → Moment → ℕ → Stepped → Buffers → Type 0
 
--- the same of a run, for its allowance
+-- which answers a run may give, at a moment and for its allowance, and which bytes it may leave
 abbrev pub RunRule : Type 1
 RunRule = Plan → Moment → ℕ → Ran → Buffers → Type 0
 
@@ -40,6 +40,6 @@ pub record Mover : Type 1 where
   pub lists : Plan → List ℕ → ℕ
   pub leaves : Plan → List ℕ → List ℕ
 
--- where a line begins: the fresh state, and these bytes
+-- where a chain begins: the fresh state, and these bytes
 abbrev pub beginning : Mover → Buffers → Moment
 beginning M v = record { state = M .fresh; buffers = v }

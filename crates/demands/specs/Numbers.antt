@@ -1,6 +1,7 @@
--- Which number does a step, a run or a text get? Each of them exactly when it is given; those of orders and addresses stand in Sends. Assumes nothing.
+-- Which number does a step, a run or a text get? Each of them exactly when it is given; those of orders and addresses stand in
+-- Sends. Assumes nothing.
 use mathlib.Core.Path.{_≡_}
-use mathlib.Core.Bool.{true, false}
+use mathlib.Core.Bool.{Bool, true, false}
 use mathlib.Core.List.{List}
 use mathlib.Core.Logic.{_↔_, _⊎_}
 use Prim.Native.Nat.{ℕ, _+_, _<_, _≤_}
@@ -11,27 +12,31 @@ use Rattle.bank.specs.Geometry.{inLimits}
 use Rattle.order.specs.declared.Order.{Order}
 use Rattle.planning.specs.declared.Plan.{Plan}
 use Rattle.planning.specs.Running.{canRun}
-use Rattle.moving.specs.Step.{Buffers, fits}
+use Rattle.moving.specs.Step.{Buffers, buffersFit}
 use Rattle.moving.specs.Call.{Moment}
 use Rattle.mover.specs.declared.step.Stepped.{Stepped}
 use Rattle.mover.specs.declared.run.Ran.{Ran}
 use Rattle.mover.specs.Promise.{numberOf}
-use Rattle.text.specs.OrderText.{orderText}
-use Rattle.text.specs.Reading.{Begins, Whole}
+use Rattle.reading.specs.OrderText.{orderText}
+use Rattle.reading.specs.Reading.{Begins, Whole}
 use Rattle.demands.specs.Mover.{Mover}
+
+-- the buffers are of the lengths that the plan's bank has
+abbrev pub fitting : Plan → Moment → Bool
+fitting plan m = buffersFit (plan .geometry) (m .buffers)
 
 -- the plan can run from the state on, and the buffers are of their lengths
 abbrev pub Ready : Plan → Moment → Type 0
-Ready plan m = (canRun plan (m .state) ≡ true) × (fits (plan .geometry) (m .buffers) ≡ true)
+Ready plan m = (canRun plan (m .state) ≡ true) × (fitting plan m ≡ true)
 
--- .. and the step asked is one of the plan's
+-- the call is ready, and the step asked is one of the plan's
 abbrev pub Asked : Mover → Plan → Moment → ℕ → Type 0
 Asked M plan m k = Ready plan m × (k < M .total plan)
 
 -- the answer r to a call for step k
 pub record StepNumbers (M : Mover) (plan : Plan) (m : Moment) (k : ℕ) (r : Stepped) : Type 0 where
   pub gives-7 : (numberOf r ≡ 7) ↔ (canRun plan (m .state) ≡ false)
-  pub gives-4 : (numberOf r ≡ 4) ↔ ((canRun plan (m .state) ≡ true) × (fits (plan .geometry) (m .buffers) ≡ false))
+  pub gives-4 : (numberOf r ≡ 4) ↔ ((canRun plan (m .state) ≡ true) × (fitting plan m ≡ false))
   pub gives-6 : (numberOf r ≡ 6) ↔ (Ready plan m × (M .total plan ≤ k))
   pub gives-0 : (numberOf r ≡ 0) ↔ (Asked M plan m k × (k ≡ m .state .next .0))
   pub gives-9 : (numberOf r ≡ 9) ↔ (Asked M plan m k × (k + 1 ≡ m .state .next .0))
@@ -40,7 +45,7 @@ pub record StepNumbers (M : Mover) (plan : Plan) (m : Moment) (k : ℕ) (r : Ste
 -- the answer r to a run
 pub record RunNumbers (plan : Plan) (m : Moment) (r : Ran) : Type 0 where
   pub gives-7 : (r .number ≡ 7) ↔ (canRun plan (m .state) ≡ false)
-  pub gives-4 : (r .number ≡ 4) ↔ ((canRun plan (m .state) ≡ true) × (fits (plan .geometry) (m .buffers) ≡ false))
+  pub gives-4 : (r .number ≡ 4) ↔ ((canRun plan (m .state) ≡ true) × (fitting plan m ≡ false))
   pub gives-0 : (r .number ≡ 0) ↔ Ready plan m
 
 -- the text begins with a first line whose geometry is inside the limits, or outside

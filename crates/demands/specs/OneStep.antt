@@ -1,67 +1,76 @@
--- What does one step do, on bytes? One block on each drive; every other byte of the three buffers stays. It is said of every plan that can run, whoever made it.
--- Assumes nothing.
+-- What does one step do, on bytes? One block on each drive; every other byte of the three buffers stays. It is said of every plan
+-- that can run, whoever made it. Assumes nothing.
 use mathlib.Core.Path.{_≡_}
 use mathlib.Core.Bool.{false}
-use Prim.Native.Nat.{ℕ, _-_, _+_, _/_, _%_, _^_, _<_}
+use mathlib.Core.List.{List}
+use Prim.Native.Nat.{ℕ, _-_, _/_, _%_, _^_, _<_}
 use lib.ListN.{length, getD}
-use Rattle.bank.specs.declared.Geometry.{Geometry}
-use Rattle.bank.specs.Geometry.{drives, blockAt, driveAt, stripeAt}
+use Rattle.bank.specs.Geometry.{drives, blockAt, driveAt, tierAt}
 use Rattle.planning.specs.declared.Plan.{Plan}
 use Rattle.planning.specs.declared.Phase.the-variants.{Reads, Writes}
 use Rattle.planning.specs.Stored.{routeOf}
-use Rattle.moving.specs.Number.{passOf, phaseOf, turnOf}
-use Rattle.moving.specs.Step.{Buffers, areaOf}
+use Rattle.moving.specs.Number.{passOf, phaseOf, tierOf}
+use Rattle.moving.specs.Step.{Buffers, areaRead, areaWritten, bytesOf}
 use Rattle.moving.specs.Call.{Moment, refuses}
 use Rattle.mover.specs.declared.step.Stepped.{Stepped}
 use Rattle.mover.specs.Promise.{numberOf}
 use Rattle.demands.specs.Mover.{Mover}
 
 -- byte i of an area lies in the block that is given for its drive
-abbrev pub InBlocks : Geometry → (ℕ → ℕ) → ℕ → Type 0
-InBlocks g blockOn i = blockAt g (i / g .r) ≡ blockOn (driveAt g (i / g .r))
+abbrev pub InBlocks : Plan → (ℕ → ℕ) → ℕ → Type 0
+InBlocks plan blockOn i = let g = plan .geometry in blockAt g (i / g .r) ≡ blockOn (driveAt g (i / g .r))
 
--- byte i of memory is of a place in stripe t of its load
-abbrev pub InStripe : Geometry → ℕ → ℕ → Type 0
-InStripe g t i = stripeAt g (i / g .r) ≡ t
+-- byte i of memory is of a place in the tier of step k
+abbrev pub InTier : Plan → ℕ → ℕ → Type 0
+InTier plan k i = let g = plan .geometry in tierAt g (i / g .r) ≡ tierOf (routeOf plan) k
+
+-- the bytes of the area that the pass of step k reads
+abbrev pub readBytes : Plan → ℕ → Buffers → List ℕ
+readBytes plan k v = bytesOf (areaRead (passOf (routeOf plan) k)) v
+
+-- the bytes of the area that the pass of step k writes
+abbrev pub writtenBytes : Plan → ℕ → Buffers → List ℕ
+writtenBytes plan k v = bytesOf (areaWritten (passOf (routeOf plan) k)) v
 
 -- a call for step k of a plan that made its move: it was done, or done again
-pub record Moved (M : Mover) (plan : Plan) (k : ℕ) (m : Moment) (w : Buffers) : Type 0 where
+pub record MoveMade (M : Mover) (plan : Plan) (k : ℕ) (m : Moment) (w : Buffers) : Type 0 where
   pub answer : Stepped
   pub promised : M .step plan m k answer w
   pub taken : refuses (numberOf answer) ≡ false
 
--- a read changes no byte of either area, and in memory only the places of its stripe;
+-- a read changes no byte of either area, and in memory only the places of its tier;
 -- what it leaves there depends on the area that it reads only through its blocks, and on nothing else
 pub record ReadStep (M : Mover) (plan : Plan) (k : ℕ) (blockOn : ℕ → ℕ) : Type 0 where
   pub area0-stays : (m : Moment) (r : Stepped) (w : Buffers) → M .step plan m k r w → w .area0 ≡ m .buffers .area0
   pub area1-stays : (m : Moment) (r : Stepped) (w : Buffers) → M .step plan m k r w → w .area1 ≡ m .buffers .area1
   pub memory-long : (m : Moment) (r : Stepped) (w : Buffers) → M .step plan m k r w → length (w .memory) ≡ length (m .buffers .memory)
   pub places : (m : Moment) (r : Stepped) (w : Buffers) → M .step plan m k r w → (i : ℕ) → i < length (m .buffers .memory)
-      → (InStripe (plan .geometry) (turnOf (routeOf plan) k) i → ⊥) → getD (w .memory) i 0 ≡ getD (m .buffers .memory) i 0
-  pub looks : (m m′ : Moment) (w w′ : Buffers) → Moved M plan k m w → Moved M plan k m′ w′
-      → ((j : ℕ) → InBlocks (plan .geometry) blockOn j
-      → getD (areaOf (passOf (routeOf plan) k) (m .buffers)) j 0 ≡ getD (areaOf (passOf (routeOf plan) k) (m′ .buffers)) j 0)
-      → (i : ℕ) → i < length (m .buffers .memory) → InStripe (plan .geometry) (turnOf (routeOf plan) k) i → getD (w .memory) i 0 ≡ getD (w′ .memory) i 0
+      → (InTier plan k i → ⊥) → getD (w .memory) i 0 ≡ getD (m .buffers .memory) i 0
+  pub looks : (m m′ : Moment) (w w′ : Buffers) → MoveMade M plan k m w → MoveMade M plan k m′ w′
+      → ((j : ℕ) → InBlocks plan blockOn j → getD (readBytes plan k (m .buffers)) j 0 ≡ getD (readBytes plan k (m′ .buffers)) j 0)
+      → (i : ℕ) → i < length (m .buffers .memory) → InTier plan k i → getD (w .memory) i 0 ≡ getD (w′ .memory) i 0
 
 -- a write changes no byte of memory nor of the area read, and in the other area only bytes of its blocks;
 -- what it leaves there depends on memory alone, so the blocks are written whole
 pub record WriteStep (M : Mover) (plan : Plan) (k : ℕ) (blockOn : ℕ → ℕ) : Type 0 where
   pub memory-stays : (m : Moment) (r : Stepped) (w : Buffers) → M .step plan m k r w → w .memory ≡ m .buffers .memory
-  pub read-stays : (m : Moment) (r : Stepped) (w : Buffers) → M .step plan m k r w
-      → areaOf (passOf (routeOf plan) k) w ≡ areaOf (passOf (routeOf plan) k) (m .buffers)
+  pub read-stays : (m : Moment) (r : Stepped) (w : Buffers) → M .step plan m k r w → readBytes plan k w ≡ readBytes plan k (m .buffers)
   pub area-long : (m : Moment) (r : Stepped) (w : Buffers) → M .step plan m k r w
-      → length (areaOf (passOf (routeOf plan) k + 1) w) ≡ length (areaOf (passOf (routeOf plan) k + 1) (m .buffers))
-  pub others-stay : (m : Moment) (r : Stepped) (w : Buffers) → M .step plan m k r w → (i : ℕ) → i < length (areaOf (passOf (routeOf plan) k + 1) (m .buffers))
-      → (InBlocks (plan .geometry) blockOn i → ⊥)
-      → getD (areaOf (passOf (routeOf plan) k + 1) w) i 0 ≡ getD (areaOf (passOf (routeOf plan) k + 1) (m .buffers)) i 0
-  pub fills : (m m′ : Moment) (w w′ : Buffers) → Moved M plan k m w → Moved M plan k m′ w′ → m .buffers .memory ≡ m′ .buffers .memory
-      → (i : ℕ) → i < length (areaOf (passOf (routeOf plan) k + 1) (m .buffers)) → InBlocks (plan .geometry) blockOn i
-      → getD (areaOf (passOf (routeOf plan) k + 1) w) i 0 ≡ getD (areaOf (passOf (routeOf plan) k + 1) w′) i 0
+      → length (writtenBytes plan k w) ≡ length (writtenBytes plan k (m .buffers))
+  pub others-stay : (m : Moment) (r : Stepped) (w : Buffers) → M .step plan m k r w → (i : ℕ) → i < length (writtenBytes plan k (m .buffers))
+      → (InBlocks plan blockOn i → ⊥) → getD (writtenBytes plan k w) i 0 ≡ getD (writtenBytes plan k (m .buffers)) i 0
+  pub fills : (m m′ : Moment) (w w′ : Buffers) → MoveMade M plan k m w → MoveMade M plan k m′ w′ → m .buffers .memory ≡ m′ .buffers .memory
+      → (i : ℕ) → i < length (writtenBytes plan k (m .buffers)) → InBlocks plan blockOn i
+      → getD (writtenBytes plan k w) i 0 ≡ getD (writtenBytes plan k w′) i 0
+
+-- the numbers of the blocks of an area
+abbrev pub BlockOf : Plan → ℕ → Type 0
+BlockOf plan y = let g = plan .geometry in y < 2 ^ (g .n - g .b)
 
 -- on each drive there is one block of the area, and the step is a read or a write of those
 pub record OneStep (M : Mover) (plan : Plan) (k : ℕ) : Type 0 where
   pub blockOn : ℕ → ℕ
-  pub in-area : (q : ℕ) → q < drives (plan .geometry) → blockOn q < 2 ^ (plan .geometry .n - plan .geometry .b)
+  pub in-area : (q : ℕ) → q < drives (plan .geometry) → BlockOf plan (blockOn q)
   pub on-drive : (q : ℕ) → q < drives (plan .geometry) → blockOn q % drives (plan .geometry) ≡ q
   pub reading : phaseOf (routeOf plan) k ≡ Reads → ReadStep M plan k blockOn
   pub writing : phaseOf (routeOf plan) k ≡ Writes → WriteStep M plan k blockOn

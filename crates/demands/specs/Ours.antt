@@ -4,10 +4,10 @@ use Rattle.order.specs.Order.{judgement}
 use Rattle.order.specs.Address.{targetOf, meaningOf, foundFor}
 use Rattle.planning.specs.State.{freshState}
 use Rattle.plan.specs.Answer.{plannedFor}
-use Rattle.plan.specs.Total.{totalSteps, resultArea}
+use Rattle.running.specs.Total.{totalSteps, resultArea}
 use Rattle.mover.specs.Promise.{StepPromise, RunPromise}
-use Rattle.text.specs.Reading.{Reads}
-use Rattle.text.specs.Listing.{written, roomAfter}
+use Rattle.reading.specs.Reading.{Reads}
+use Rattle.listing.specs.Listing.{written, roomAfter}
 use Rattle.demands.specs.Mover.{Mover}
 
 abbrev pub ours : Mover

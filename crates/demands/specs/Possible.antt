@@ -11,29 +11,29 @@ use Rattle.bank.specs.declared.Geometry.{Geometry}
 use Rattle.bank.specs.Geometry.{inLimits}
 use Rattle.algebra.specs.Matrix.{identity}
 use Rattle.order.specs.declared.Order.{Order}
+use Rattle.order.specs.Address.{sentTo}
 use Rattle.planning.specs.declared.Plan.{Plan}
-use Rattle.moving.specs.Step.{Buffers, fits}
+use Rattle.moving.specs.Step.{Buffers, buffersFit}
 use Rattle.moving.specs.Call.{Moment}
 use Rattle.demands.specs.Mover.{Mover, beginning}
 use Rattle.demands.specs.Ours.{ours}
 use Rattle.demands.specs.Chain.{Called, Chain}
 use Rattle.demands.specs.Chain.Called.{asked, allowed, strayAsked, strayAllowed}
 use Rattle.demands.specs.Answers.{Answers}
-use Rattle.demands.specs.Sends.{sentTo}
 use Rattle.demands.specs.Delivers.{Delivers}
 
 -- the order that sends x to x xor 1
 abbrev pub flipOrder : Geometry → Order
 flipOrder g = record { geometry = g; rows = identity (g .n) ++ replicate (ROWS - g .n) 0; complement = 1 }
 
--- ---- a line with repeats, refused calls and runs in it
+-- ---- a chain with repeats, refused calls and runs in it
 
--- a line's own call, its answer left open
+-- a chain's own call, its answer left open
 pub data Call : Type 0 where
   asks : ℕ → Call
   runs : ℕ → Call
 
--- the line's own calls of a chain
+-- the own calls of a chain
 unfoldable pub callsOf : List Called → List Call
 callsOf [] = []
 callsOf (asked k answer ∷ cs) = asks k ∷ callsOf cs
@@ -52,20 +52,20 @@ inTurn more zero j rest = rest
 inTurn more (suc k) j rest = asks j ∷ again (more j) j (inTurn more k (suc j) rest)
 
 -- a step asked past the total; k steps in turn, with repeats; past the total again; and a run of all that is left
-abbrev pub busyLine : ℕ → ℕ → (ℕ → ℕ) → List Call
-busyLine all k more = asks all ∷ inTurn more k 0 (asks all ∷ runs all ∷ [])
+abbrev pub busyCalls : ℕ → ℕ → (ℕ → ℕ) → List Call
+busyCalls all k more = asks all ∷ inTurn more k 0 (asks all ∷ runs all ∷ [])
 
 -- a chain of these calls from the start to the end
-pub record Comes (M : Mover) (plan : Plan) (v : Buffers) (line : List Call) : Type 0 where
+pub record Comes (M : Mover) (plan : Plan) (v : Buffers) (these : List Call) : Type 0 where
   pub calls : List Called
   pub end : Moment
   pub chain : Chain M plan (beginning M v) calls end
-  pub these : callsOf calls ≡ line
+  pub own : callsOf calls ≡ these
   pub there : end .state .next .0 ≡ M .total plan
 
 pub record Possible : Type 1 where
   pub taken : (g : Geometry) → inLimits g ≡ true → ours .judges (flipOrder g) ≡ 0
   pub moves : (g : Geometry) → inLimits g ≡ true → sentTo (flipOrder g) 0 ≡ 1
   pub comes : (M : Mover) → Answers M → Delivers M → (order : Order) → length (order .rows) ≡ ROWS → M .judges order ≡ 0
-      → (v : Buffers) → fits (order .geometry) v ≡ true → (k : ℕ) → k ≤ M .total (M .plans order .plan) → (more : ℕ → ℕ)
-      → Comes M (M .plans order .plan) v (busyLine (M .total (M .plans order .plan)) k more)
+      → (v : Buffers) → buffersFit (order .geometry) v ≡ true → (k : ℕ) → k ≤ M .total (M .plans order .plan) → (more : ℕ → ℕ)
+      → Comes M (M .plans order .plan) v (busyCalls (M .total (M .plans order .plan)) k more)

@@ -10,10 +10,10 @@ use Rattle.moving.specs.Call.{Moment}
 use Rattle.mover.specs.declared.step.Stepped.{Stepped}
 use Rattle.mover.specs.Promise.{numberOf, stateOf}
 use Rattle.demands.specs.Mover.{Mover}
-use Rattle.demands.specs.Chain.{Called, Chain, between}
+use Rattle.demands.specs.Chain.{Called, Chain, momentOf}
 use Rattle.demands.specs.Chain.Called.{asked, allowed, strayAsked, strayAllowed}
 
--- repeats and refused calls alone: no call of the line's own is answered 0
+-- repeats and refused calls alone: no call of the chain's own is answered 0
 unfoldable pub quiet : List Called → Bool
 quiet [] = true
 quiet (asked k answer ∷ cs) = not (eqb (numberOf answer) 0) && quiet cs
@@ -26,5 +26,5 @@ quiet (strayAllowed stray q answer ∷ cs) = quiet cs
 abbrev pub Repeats : Mover → Type 0
 Repeats M =
     (plan : Plan) (m : Moment) (k : ℕ) (r : Stepped) (w : Buffers) → M .step plan m k r w → numberOf r ≡ 0
-    → (cs : List Called) (later : Moment) → Chain M plan (between (stateOf r) w) cs later → quiet cs ≡ true
+    → (cs : List Called) (later : Moment) → Chain M plan (momentOf (stateOf r) w) cs later → quiet cs ≡ true
     → (again : Stepped) (u : Buffers) → M .step plan later k again u → (numberOf again ≡ 9) × (stateOf again ≡ stateOf r) × (u ≡ w)

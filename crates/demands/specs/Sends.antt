@@ -1,32 +1,34 @@
--- Demand 2 of any mover: which orders does it take, and where does it send an address? Each number of an order and of an address, exactly when it is given.
--- Assumes nothing.
+-- Demand 2 of any mover: which orders does it take, and where does it send an address? Each number of an order and of an address,
+-- exactly when it is given. Assumes nothing.
 use mathlib.Core.Path.{_≡_}
 use mathlib.Core.Bool.{true, false}
 use mathlib.Core.List.{[], _∷_}
 use mathlib.Core.Logic.{_↔_}
 use Prim.Native.Nat.{ℕ, _<_, _≤_}
-use lib.Bits.{bitXor}
 use lib.ListN.{length}
 use Rattle.bank.specs.Limits.{ROWS}
 use Rattle.bank.specs.Geometry.{inLimits, records}
-use Rattle.algebra.specs.Matrix.{apply}
 use Rattle.order.specs.declared.Order.{Order}
 use Rattle.order.specs.declared.address.Source.{Source}
-use Rattle.order.specs.Order.{matrixOf, badForm}
-use Rattle.order.specs.Address.{meaningOf}
+use Rattle.order.specs.Order.{badForm}
+use Rattle.order.specs.Address.{meaningOf, sentTo}
 use Rattle.demands.specs.Mover.{Mover}
 use Rattle.demands.specs.Answers.{Refusal}
 
--- Ax xor c
-abbrev pub sentTo : Order → ℕ → ℕ
-sentTo order x = bitXor (apply (matrixOf order) x) (order .complement)
+-- the addresses of an order: those below N
+abbrev pub AddressOf : Order → ℕ → Type 0
+AddressOf order x = x < records (order .geometry)
 
--- two different addresses below N share a target
+-- x is N or more
+abbrev pub Beyond : Order → ℕ → Type 0
+Beyond order x = records (order .geometry) ≤ x
+
+-- two different addresses share a target
 pub record SharedTarget (order : Order) : Type 0 where
   pub x : ℕ
   pub y : ℕ
-  pub x-below : x < records (order .geometry)
-  pub y-below : y < records (order .geometry)
+  pub x-below : AddressOf order x
+  pub y-below : AddressOf order y
   pub different : x ≡ y → ⊥
   pub shared : sentTo order x ≡ sentTo order y
 
@@ -34,22 +36,22 @@ pub record SharedTarget (order : Order) : Type 0 where
 abbrev pub Formed : Order → Type 0
 Formed order = (inLimits (order .geometry) ≡ true) × (badForm order ≡ false)
 
--- asked backwards for y, the mover gives x, and x is the only address below N that goes there
+-- asked backwards for y, the mover gives x, and x is the only address that goes there
 pub record OnlySource (M : Mover) (order : Order) (y : ℕ) : Type 0 where
   pub x : ℕ
   pub given : (answer : Source) → M .finds order y answer → meaningOf answer ≡ record { number = 0; sources = x ∷ [] }
-  pub below : x < records (order .geometry)
+  pub below : AddressOf order x
   pub goes : sentTo order x ≡ y
-  pub only : (z : ℕ) → z < records (order .geometry) → sentTo order z ≡ y → z ≡ x
+  pub only : (z : ℕ) → AddressOf order z → sentTo order z ≡ y → z ≡ x
 
--- of an order, whatever it holds
+-- what is asked of the calls on one order, whatever it holds
 pub record Addresses (M : Mover) (order : Order) : Type 0 where
-  -- an order that is taken sends x to Ax xor c ..
-  pub sends : M .judges order ≡ 0 → (x : ℕ) → x < records (order .geometry)
+  -- an order that is taken sends x to Ax xor c
+  pub sends : M .judges order ≡ 0 → (x : ℕ) → AddressOf order x
       → M .sends order x ≡ record { number = 0; address = record { 0 = sentTo order x } }
-  -- .. asking backwards gives the only x that goes there ..
-  pub returns : M .judges order ≡ 0 → (y : ℕ) → y < records (order .geometry) → OnlySource M order y
-  -- .. and an order in good form is singular exactly when two addresses share a target
+  -- asking backwards gives the only x that goes there
+  pub returns : M .judges order ≡ 0 → (y : ℕ) → AddressOf order y → OnlySource M order y
+  -- an order in good form is singular exactly when two addresses share a target
   pub gives-3 : (M .judges order ≡ 3) ↔ (Formed order × SharedTarget order)
   -- the other numbers of an order: outside the limits; not in good form; taken
   pub gives-1 : (M .judges order ≡ 1) ↔ (inLimits (order .geometry) ≡ false)
@@ -57,9 +59,9 @@ pub record Addresses (M : Mover) (order : Order) : Type 0 where
   pub gives-0 : (M .judges order ≡ 0) ↔ (Formed order × (SharedTarget order → ⊥))
   -- the number of a question: the order's own where that refuses; then 10 exactly for an address of N or more
   pub asks-judged : (x : ℕ) → Refusal (M .judges order) → M .sends order x .number ≡ M .judges order
-  pub asks-10 : (x : ℕ) → (M .sends order x .number ≡ 10) ↔ ((M .judges order ≡ 0) × (records (order .geometry) ≤ x))
+  pub asks-10 : (x : ℕ) → (M .sends order x .number ≡ 10) ↔ ((M .judges order ≡ 0) × Beyond order x)
   pub back-judged : (y : ℕ) (a : Source) → M .finds order y a → Refusal (M .judges order) → meaningOf a .number ≡ M .judges order
-  pub back-10 : (y : ℕ) (a : Source) → M .finds order y a → (meaningOf a .number ≡ 10) ↔ ((M .judges order ≡ 0) × (records (order .geometry) ≤ y))
+  pub back-10 : (y : ℕ) (a : Source) → M .finds order y a → (meaningOf a .number ≡ 10) ↔ ((M .judges order ≡ 0) × Beyond order y)
 
 -- so it is for every order; the rows of an order fill the room of their array
 abbrev pub Sends : Mover → Type 0

@@ -14,7 +14,8 @@ use Rattle.planning.specs.Stored.{routeOf}
 use Rattle.plan.specs.declared.make.Planned.{Planned}
 use Rattle.demands.specs.Ours.{ours}
 
--- a trial: an order and an address; the number and the target that are given back; how many passes and steps, the area of the result, and the passes, if listed
+-- a trial: an order and an address; the number and the target that are given back; how many passes and steps, the area of the
+-- result, and the passes, if listed
 pub record Trial : Type 0 where
   pub order : Order
   pub address : ℕ
@@ -26,17 +27,17 @@ pub record Trial : Type 0 where
   pub listed : List Pass
 
 -- the same numbers, and as many
-abbrev pub same : List ℕ → List ℕ → Bool
-same [] [] = true
-same [] (y ∷ ys) = false
-same (x ∷ xs) [] = false
-same (x ∷ xs) (y ∷ ys) = eqb x y && same xs ys
+abbrev pub sameNumbers : List ℕ → List ℕ → Bool
+sameNumbers [] [] = true
+sameNumbers [] (y ∷ ys) = false
+sameNumbers (x ∷ xs) [] = false
+sameNumbers (x ∷ xs) (y ∷ ys) = eqb x y && sameNumbers xs ys
 
 -- each listed pass has its rows and its complement; a trial may list none
 abbrev pub asListed : List Pass → List Pass → Bool
 asListed [] ps = true
 asListed (l ∷ ls) [] = false
-asListed (l ∷ ls) (p ∷ ps) = same (l .rows) (p .rows) && eqb (l .complement) (p .complement) && asListed ls ps
+asListed (l ∷ ls) (p ∷ ps) = sameNumbers (l .rows) (p .rows) && eqb (l .complement) (p .complement) && asListed ls ps
 
 -- the numbers of a geometry
 abbrev pub sizes : Geometry → List ℕ
@@ -46,12 +47,13 @@ sizes g = g .n ∷ g .b ∷ g .d ∷ g .m ∷ g .r ∷ []
 abbrev pub held : Plan → List ℕ
 held plan = sizes (plan .geometry) ++ (plan .count ∷ (plan .rows ++ plan .complements))
 
--- with 0 the plan is for the order's bank, and has its passes, steps and area of the result; with a refusal it is zero everywhere
+-- with 0 the plan is for the order's bank, and has its passes, steps and area of the result; with a refusal it is zero
+-- everywhere
 abbrev pub asPlanned : ℕ → Trial → Plan → Bool
 asPlanned zero t plan =
-    same (sizes (plan .geometry)) (sizes (t .order .geometry)) && eqb (plan .count) (t .passes) && eqb (ours .total plan) (t .steps)
+    sameNumbers (sizes (plan .geometry)) (sizes (t .order .geometry)) && eqb (plan .count) (t .passes) && eqb (ours .total plan) (t .steps)
     && eqb (ours .area plan) (t .area) && asListed (t .listed) (routeOf plan .passes)
-asPlanned (suc k) t plan = same (held plan) (replicate (6 + PASSES * ROWS + PASSES) 0)
+asPlanned (suc k) t plan = sameNumbers (held plan) (replicate (6 + PASSES * ROWS + PASSES) 0)
 
 -- what a planning call answers
 abbrev pub planned : Trial → Planned → Bool
@@ -63,10 +65,6 @@ sends t answer = eqb (answer .number) (t .number) && eqb (answer .address .0) (t
 
 abbrev pub right : Trial → Bool
 right t = sends t (ours .sends (t .order) (t .address)) && planned t (ours .plans (t .order))
-
-abbrev pub allRight : List Trial → Bool
-allRight [] = true
-allRight (t ∷ ts) = right t && allRight ts
 
 -- n b d m R, the rows, c
 abbrev order : ℕ → ℕ → ℕ → ℕ → ℕ → List ℕ → ℕ → Order

@@ -5,7 +5,7 @@ use mathlib.Core.List.{List}
 use Prim.Native.Nat.{ℕ, _+_, _-_, _^_}
 use lib.Dec.{eqb}
 use lib.ListN.{getD}
-use Rattle.algebra.specs.Search.{some}
+use Rattle.algebra.specs.Search.{anyBelow}
 use Rattle.bank.specs.Checks.{handed}
 use Rattle.order.specs.declared.Order.{Order}
 use Rattle.order.specs.declared.address.Target.{Target}
@@ -16,46 +16,29 @@ use Rattle.planning.specs.declared.Plan.{Plan}
 use Rattle.planning.specs.declared.state.State.{State}
 use Rattle.planning.specs.State.{freshState}
 use Rattle.planning.specs.Stored.{emptyPlan, routeOf}
-use Rattle.plan.specs.Total.{totalSteps, resultArea}
+use Rattle.running.specs.Total.{totalSteps, resultArea}
 use Rattle.moving.specs.Bytes.{copied}
 use Rattle.moving.specs.Number.{passOf, loadOf, phaseOf}
-use Rattle.moving.specs.Step.{Buffers, areaOf, byPhase, moves, readFrom, withMemory}
+use Rattle.moving.specs.Step.{Buffers, areaRead, byPhase, bytesOf, move, movesFrom, readFrom, withMemory}
 use Rattle.moving.specs.Call.{buffersBy}
 use Rattle.mover.specs.declared.step.Stepped.{Stepped}
 use Rattle.mover.specs.declared.step.Stepped.the-variants.{Refused}
 use Rattle.mover.specs.Promise.{StepPromise, RunPromise, numberOf}
-use Rattle.text.specs.Reading.{Reads, noOrder}
-use Rattle.text.specs.Listing.{written, roomAfter}
+use Rattle.reading.specs.Reading.{Reads, noOrder}
+use Rattle.listing.specs.Listing.{written, roomAfter}
 use Rattle.demands.specs.Mover.{Mover, RunRule, StepRule}
 use Rattle.demands.specs.Ours.{ours}
 use Rattle.demands.specs.Answers.{Answers}
 use Rattle.demands.specs.Sends.{Sends}
 use Rattle.demands.specs.Delivers.{Delivers}
 
--- ours with other answers on orders and addresses
-abbrev answering : (Order → ℕ) → (Order → ℕ → Target) → Mover
-answering judges sends =
+-- ours but for these; a question backwards and planning are answered as ours are
+abbrev altered : (Order → ℕ) → (Order → ℕ → Target) → (Plan → ℕ) → (Plan → ℕ) → State → StepRule → RunRule
+    → (List ℕ → ℕ → Order → Type 0) → (Plan → List ℕ → ℕ) → (Plan → List ℕ → List ℕ) → Mover
+altered judges sends total area fresh step run reads lists leaves =
     record {
       judges = judges;
       sends = sends;
-      finds = ours .finds;
-      plans = ours .plans;
-      total = totalSteps;
-      area = resultArea;
-      fresh = freshState;
-      step = StepPromise;
-      run = RunPromise;
-      reads = Reads;
-      lists = written;
-      leaves = roomAfter;
-    }
-
--- ours with other totals, areas, starts, steps and runs
-abbrev stepping : (Plan → ℕ) → (Plan → ℕ) → State → StepRule → RunRule → Mover
-stepping total area fresh step run =
-    record {
-      judges = judgement;
-      sends = targetOf;
       finds = ours .finds;
       plans = ours .plans;
       total = total;
@@ -63,28 +46,22 @@ stepping total area fresh step run =
       fresh = fresh;
       step = step;
       run = run;
-      reads = Reads;
-      lists = written;
-      leaves = roomAfter;
-    }
-
--- ours with other readings and listings
-abbrev writing : (List ℕ → ℕ → Order → Type 0) → (Plan → List ℕ → ℕ) → (Plan → List ℕ → List ℕ) → Mover
-writing reads lists leaves =
-    record {
-      judges = judgement;
-      sends = targetOf;
-      finds = ours .finds;
-      plans = ours .plans;
-      total = totalSteps;
-      area = resultArea;
-      fresh = freshState;
-      step = StepPromise;
-      run = RunPromise;
       reads = reads;
       lists = lists;
       leaves = leaves;
     }
+
+-- ours with other answers on orders and addresses
+abbrev answering : (Order → ℕ) → (Order → ℕ → Target) → Mover
+answering judges sends = altered judges sends totalSteps resultArea freshState StepPromise RunPromise Reads written roomAfter
+
+-- ours with other totals, areas, starts, steps and runs
+abbrev stepping : (Plan → ℕ) → (Plan → ℕ) → State → StepRule → RunRule → Mover
+stepping total area fresh step run = altered judgement targetOf total area fresh step run Reads written roomAfter
+
+-- ours with other readings and listings
+abbrev writing : (List ℕ → ℕ → Order → Type 0) → (Plan → List ℕ → ℕ) → (Plan → List ℕ → List ℕ) → Mover
+writing reads lists leaves = altered judgement targetOf totalSteps resultArea freshState StepPromise RunPromise reads lists leaves
 
 -- ---- the six of the rules
 
@@ -127,7 +104,7 @@ movesNothing = stepping totalSteps resultArea freshState idleStep idleRun
 abbrev eagerStep : StepRule
 eagerStep plan m k r w =
     (u : Buffers) × StepPromise plan m k r u
-    × (w ≡ buffersBy (numberOf r) (cond (eqb k 0) (moves (routeOf plan) (totalSteps plan) (m .buffers)) (m .buffers)) (m .buffers))
+    × (w ≡ buffersBy (numberOf r) (cond (eqb k 0) (movesFrom (move (routeOf plan)) 0 (totalSteps plan) (m .buffers)) (m .buffers)) (m .buffers))
 
 abbrev pub movesAll : Mover
 movesAll = stepping totalSteps resultArea freshState eagerStep RunPromise
@@ -154,7 +131,7 @@ beginsAtOne = stepping totalSteps resultArea (record { next = record { 0 = 1 } }
 abbrev loadRead : Plan → ℕ → Buffers → Buffers
 loadRead plan k v =
     withMemory
-    (copied (λ q. true) (readFrom (plan .geometry) (loadOf (routeOf plan) k)) (plan .geometry .r) (areaOf (passOf (routeOf plan) k) v) (v .memory))
+    (copied (λ q. true) (readFrom (plan .geometry) (loadOf (routeOf plan) k)) (plan .geometry .r) (bytesOf (areaRead (passOf (routeOf plan) k)) v) (v .memory))
     v
 
 abbrev loadStep : StepRule
@@ -170,7 +147,10 @@ readsWholeLoad = stepping totalSteps resultArea freshState loadStep RunPromise
 -- it takes the identity alone, and calls every other matrix singular
 abbrev pub takesIdentityAlone : Mover
 takesIdentityAlone =
-    answering (λ order. handed (judgement order) (cond (some (λ i. not (eqb (getD (order .rows) i 0) (2 ^ i))) (order .geometry .n)) 3 0) (judgement order)) targetOf
+    answering
+    (λ order. let other = anyBelow (λ i. not (eqb (getD (order .rows) i 0) (2 ^ i))) (order .geometry .n) in
+    handed (judgement order) (cond other 3 0) (judgement order))
+    targetOf
 
 -- it refuses a repeat by 5
 abbrev onceStep : StepRule

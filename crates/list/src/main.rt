@@ -2,11 +2,11 @@
 use bank::Address;
 use libc::STDIN_FILENO;
 use libc::STDOUT_FILENO;
+use listing::write_listing;
 use order::address::Source;
 use order::address::source_of;
 use plan::make::make_plan;
-use text::listing::write_listing;
-use text::read::read_order;
+use reading::read_order;
 
 // More than the longest order text: what follows the buffer can't make a text that is too long right.
 const TEXT: usize = 4096;

@@ -9,7 +9,7 @@ ghost use Rattle.algebra.specs.Elimination.{rest, used, noEntries, grown, built
 ghost use Rattle.matrix.specs.Echelon.{echelonOf};
 use crate::vector::bit_of;
 use crate::vector::power;
-use crate::vector::times;
+use crate::vector::unless_zero;
 use bank::ROWS;
 
 // The entries so far: a vector, one set bit of it, and the columns of which it is the sum.
@@ -41,7 +41,8 @@ pub fn no_entries() -> Echelon
 // v reduced by the entries, and t with the tags of those that were added.
 pub fn reduce(e: Echelon, v: u32, t: u32) -> Reduced
     requires { ⌜ e .count ≤ ROWS ⌝ }
-    ensures { λ r. ⌜ (r .left ≡ rest (e .vectors) (e .pivots) (e .count) v) × (r .tag ≡ bitXor t (used (e .vectors) (e .pivots) (e .tags) (e .count) v)) ⌝ }
+    ensures { λ r. ⌜ (r .left ≡ rest (e .vectors) (e .pivots) (e .count) v)
+        × (r .tag ≡ bitXor t (used (e .vectors) (e .pivots) (e .tags) (e .count) v)) ⌝ }
 {
     let vectors = e.vectors;
     let pivots = e.pivots;
@@ -52,8 +53,8 @@ pub fn reduce(e: Echelon, v: u32, t: u32) -> Reduced
     let mut i = 0;
     while i < count {
         let d = bit_of(u, pivots[i]);
-        u = u ^ times(d, vectors[i]);
-        s = s ^ times(d, tags[i]);
+        u = u ^ unless_zero(d, vectors[i]);
+        s = s ^ unless_zero(d, tags[i]);
         i += 1;
     }
     Reduced { left: u, tag: s }

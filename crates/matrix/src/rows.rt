@@ -4,7 +4,7 @@ ghost use mathlib.Core.List.{_++_};
 ghost use Prim.Native.Nat.{_≤_, _-_};
 ghost use lib.ListN.{take, drop, replicate};
 ghost use Rattle.bank.specs.Limits.{ROWS};
-ghost use Rattle.algebra.specs.Matrix.{apply, columns, product, identity};
+ghost use Rattle.algebra.specs.Matrix.{after, applied, columns, identity};
 use crate::vector::parity;
 use crate::vector::power;
 use crate::vector::sum;
@@ -13,7 +13,7 @@ use bank::ROWS;
 // The rows from..to applied to x.
 pub(crate) fn apply_part(rows: &[u32; ROWS], from: usize, to: usize, x: u32) -> u32
     requires { ⌜ (from ≤ to) × (to ≤ ROWS) ⌝ }
-    ensures { λ r. ⌜ r ≡ apply (take (to - from) (drop from (now (rows .entry)))) x ⌝ }
+    ensures { λ r. ⌜ r ≡ applied (take (to - from) (drop from (now (rows .entry)))) x ⌝ }
 {
     let mut r: u32 = 0;
     let mut i = to - from;
@@ -27,7 +27,7 @@ pub(crate) fn apply_part(rows: &[u32; ROWS], from: usize, to: usize, x: u32) -> 
 // The first n rows applied to x.
 pub fn apply(rows: &[u32; ROWS], n: usize, x: u32) -> u32
     requires { ⌜ n ≤ ROWS ⌝ }
-    ensures { λ r. ⌜ r ≡ apply (take n (now (rows .entry))) x ⌝ }
+    ensures { λ r. ⌜ r ≡ applied (take n (now (rows .entry))) x ⌝ }
 {
     apply_part(rows, 0, n, x)
 }
@@ -49,7 +49,7 @@ pub fn columns(rows: &[u32; ROWS], from: usize, to: usize, n: usize) -> [u32; RO
 // The sums of the first n vectors that the first n picks ask for; the places after them hold zero.
 fn sums(picks: [u32; ROWS], vectors: &[u32; ROWS], n: usize) -> [u32; ROWS]
     requires { ⌜ n ≤ ROWS ⌝ }
-    ensures { λ r. ⌜ r ≡ product (take n picks) (take n (now (vectors .entry))) ++ replicate (ROWS - n) 0 ⌝ }
+    ensures { λ r. ⌜ r ≡ after (take n (now (vectors .entry))) (take n picks) ++ replicate (ROWS - n) 0 ⌝ }
 {
     let mut rows = [0u32; ROWS];
     let mut i = 0;
@@ -63,7 +63,7 @@ fn sums(picks: [u32; ROWS], vectors: &[u32; ROWS], n: usize) -> [u32; ROWS]
 // The product of two matrices of n rows; the places after the rows hold zero.
 pub fn product(a: &[u32; ROWS], b: &[u32; ROWS], n: usize) -> [u32; ROWS]
     requires { ⌜ n ≤ ROWS ⌝ }
-    ensures { λ r. ⌜ r ≡ product (take n (now (a .entry))) (take n (now (b .entry))) ++ replicate (ROWS - n) 0 ⌝ }
+    ensures { λ r. ⌜ r ≡ after (take n (now (b .entry))) (take n (now (a .entry))) ++ replicate (ROWS - n) 0 ⌝ }
 {
     let picks = *a;
     sums(picks, b, n)

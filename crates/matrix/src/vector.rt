@@ -3,7 +3,7 @@ ghost use mathlib.Core.Path.{_≡_};
 ghost use Prim.Native.Nat.{_<_, _≤_, _^_};
 ghost use lib.ListN.{take};
 ghost use Rattle.bank.specs.Limits.{ROWS};
-ghost use Rattle.algebra.specs.Vector.{WORD, parity, bit, times, comb};
+ghost use Rattle.algebra.specs.Vector.{WORD, parity, bit, unlessZero, comb};
 use bank::ROWS;
 use bank::WORD;
 
@@ -22,8 +22,8 @@ pub fn bit_of(v: u32, q: u32) -> u32
 }
 
 // Nothing where d is 0, and v where it is not.
-pub fn times(d: u32, v: u32) -> u32
-    ensures { λ r. ⌜ r ≡ times d v ⌝ }
+pub fn unless_zero(d: u32, v: u32) -> u32
+    ensures { λ r. ⌜ r ≡ unlessZero d v ⌝ }
 {
     if d == 0 { 0 } else { v }
 }
@@ -45,7 +45,7 @@ pub fn sum(vectors: &[u32; ROWS], n: usize, s: u32) -> u32
     let mut left = s;
     let mut j = 0;
     while j < n {
-        total = total ^ times(left % 2, vectors[j]);
+        total = total ^ unless_zero(left % 2, vectors[j]);
         left = left / 2;
         j += 1;
     }

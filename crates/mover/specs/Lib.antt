@@ -1,3 +1,2 @@
--- What the calls for steps and runs promise, and their numbers by lengths alone.
+-- What the calls for steps and runs promise.
 pub mod Promise
-pub mod Numbers

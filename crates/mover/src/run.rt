@@ -2,19 +2,19 @@
 ghost use mathlib.Core.Path.{_≡_};
 ghost use Prim.Native.Nat.{_+_, _<_, _^_, min};
 ghost use Rattle.planning.specs.Stored.{routeOf};
-ghost use Rattle.moving.specs.Call.{lent, movesFrom};
-ghost use Rattle.blocks.specs.Moving.{MoveReady, StepsReady, movesBy};
+ghost use Rattle.moving.specs.Call.{lent};
+ghost use Rattle.blocks.specs.Moving.{MoveReady, StepsReady, moveBy};
 ghost use Rattle.mover.specs.Promise.{RunPromise};
-ghost use Rattle.moving.specs.Step.{buffersOf};
+ghost use Rattle.moving.specs.Step.{buffersOf, move, movesFrom};
 use crate::step::ready_number;
 use bank::Step;
 use blocks::moves::move_step;
-use blocks::tables::Tables;
-use blocks::tables::tables_of;
-use blocks::turns::pace_of;
-use plan::running::total_steps;
 use planning::Plan;
 use planning::state::State;
+use running::total_steps;
+use tables::pace::pace_of;
+use tables::tables::Tables;
+use tables::tables::tables_of;
 
 // The number, the steps that were done, and the state that follows.
 pub struct Ran {
@@ -41,7 +41,7 @@ fn run_pass(
 )
     requires { ⌜ MoveReady t (buffersOf (now area0) (now area1) (now memory)) × (first .0 + count < 2 ^ 64) ⌝ }
     ensures { λ _. ⌜ buffersOf (now (area0 .exit)) (now (area1 .exit)) (now (memory .exit))
-        ≡ movesBy t (first .0) count (buffersOf (now (area0 .entry)) (now (area1 .entry)) (now (memory .entry))) ⌝ }
+        ≡ movesFrom (moveBy t) (first .0) count (buffersOf (now (area0 .entry)) (now (area1 .entry)) (now (memory .entry))) ⌝ }
 {
     let mut i: u64 = 0;
     while i < count {
@@ -62,7 +62,7 @@ fn run_steps(
 )
     requires { ⌜ StepsReady plan (first .0) count (buffersOf (now area0) (now area1) (now memory)) ⌝ }
     ensures { λ _. ⌜ buffersOf (now (area0 .exit)) (now (area1 .exit)) (now (memory .exit))
-        ≡ movesFrom (routeOf plan) (first .0) count (buffersOf (now (area0 .entry)) (now (area1 .entry)) (now (memory .entry))) ⌝ }
+        ≡ movesFrom (move (routeOf plan)) (first .0) count (buffersOf (now (area0 .entry)) (now (area1 .entry)) (now (memory .entry))) ⌝ }
 {
     let each = pace_of(plan).pass;
     let mut done: u64 = 0;

@@ -1,24 +1,24 @@
 // A step that is asked for.
 ghost use mathlib.Core.Path.{_≡_};
-ghost use Rattle.bank.specs.Geometry.{Allowed};
+ghost use mathlib.Core.Bool.{true};
 ghost use Rattle.planning.specs.Pass.{total};
 ghost use Rattle.planning.specs.Stored.{routeOf};
-ghost use Rattle.moving.specs.Call.{lent, turnNumber};
-ghost use Rattle.mover.specs.Numbers.{lengthsFit, readyBy};
+ghost use Rattle.moving.specs.Call.{lent, readyBy, turnNumber};
 ghost use Rattle.blocks.specs.Moving.{StepsReady};
 ghost use Rattle.mover.specs.Promise.{StepPromise};
-ghost use Rattle.moving.specs.Step.{buffersOf, move};
+ghost use Rattle.moving.specs.Step.{buffersOf, lengthsFit, move};
+ghost use Rattle.bank.specs.Geometry.{inLimits};
 use bank::Geometry;
 use bank::Step;
 use bank::power;
 use bank::wide;
 use blocks::moves::move_step;
-use blocks::tables::tables_of;
-use blocks::turns::pass_of;
-use plan::running::can_run;
-use plan::running::total_steps;
 use planning::Plan;
 use planning::state::State;
+use running::can_run;
+use running::total_steps;
+use tables::pace::pass_of;
+use tables::tables::tables_of;
 
 // Done, done again (9), or refused by a number; each with the state that follows.
 pub enum Stepped {
@@ -29,7 +29,7 @@ pub enum Stepped {
 
 // Whether the buffers are of their lengths.
 fn lengths_fit(g: Geometry, area0: usize, area1: usize, memory: usize) -> bool
-    requires { ⌜ Allowed g ⌝ }
+    requires { ⌜ inLimits g ≡ true ⌝ }
     ensures { λ r. ⌜ r ≡ lengthsFit g area0 area1 memory ⌝ }
 {
     let r = wide(g.r);

@@ -1,62 +1,51 @@
 -- Why does a move made again change nothing? Assumes nothing.
-use mathlib.Core.Path.{_∙_, _≡_, ap, ap₂, refl}
-use mathlib.Core.Bool.{Bool, false, not, true}
+use mathlib.Core.Path.{_≡_, refl}
 use mathlib.Core.List.{List}
 use Prim.Native.Nat.{ℕ}
 use Rattle.bank.specs.declared.Geometry.{Geometry}
 use Rattle.moving.proofs.Bytes.{copied-again}
 use Rattle.moving.specs.Bytes.{copied}
-use Rattle.moving.specs.Number.{loadOf, passOf, phaseOf, turnOf}
-use Rattle.moving.specs.Step.{Buffers, areaBy, areaOf, byPhase, even, move, readFrom, readMove, readTakes, withAreaBy, withMemory, writeFrom, writeMove, writeTakes}
+use Rattle.moving.specs.Number.{loadOf, passOf, phaseOf, tierOf}
+use Rattle.moving.specs.Step.Area.{zeroth, first}
+use Rattle.moving.specs.Step.{Area, Buffers, areaRead, byPhase, bytesOf, move, otherArea, readFrom, readMove, readTakes, withBytes, withMemory, writeMove}
 use Rattle.planning.specs.declared.Phase.{Phase}
 use Rattle.planning.specs.declared.Phase.the-variants.{Reads, Writes}
 use Rattle.planning.specs.Pass.{Pass, Route, passAt}
 
 -- ---- the areas
 
-pub area-same : (t : Bool) (l : List ℕ) (v : Buffers) → areaBy t (withAreaBy t l v) ≡ l
-area-same true l v = refl
-area-same false l v = refl
+pub area-same : (a : Area) (l : List ℕ) (v : Buffers) → bytesOf a (withBytes a l v) ≡ l
+area-same zeroth l v = refl
+area-same first l v = refl
 
-pub area-other : (t : Bool) (l : List ℕ) (v : Buffers) → areaBy t (withAreaBy (not t) l v) ≡ areaBy t v
-area-other true l v = refl
-area-other false l v = refl
+pub area-other : (a : Area) (l : List ℕ) (v : Buffers) → bytesOf a (withBytes (otherArea a) l v) ≡ bytesOf a v
+area-other zeroth l v = refl
+area-other first l v = refl
 
-pub area-memory : (t : Bool) (l : List ℕ) (v : Buffers) → withAreaBy t l v .memory ≡ v .memory
-area-memory true l v = refl
-area-memory false l v = refl
+pub area-memory : (a : Area) (l : List ℕ) (v : Buffers) → withBytes a l v .memory ≡ v .memory
+area-memory zeroth l v = refl
+area-memory first l v = refl
 
-pub memory-area : (t : Bool) (l : List ℕ) (v : Buffers) → areaBy t (withMemory l v) ≡ areaBy t v
-memory-area true l v = refl
-memory-area false l v = refl
+pub memory-area : (a : Area) (l : List ℕ) (v : Buffers) → bytesOf a (withMemory l v) ≡ bytesOf a v
+memory-area zeroth l v = refl
+memory-area first l v = refl
 
-with-twice : (t : Bool) (l k : List ℕ) (v : Buffers) → withAreaBy t l (withAreaBy t k v) ≡ withAreaBy t l v
-with-twice true l k v = refl
-with-twice false l k v = refl
+area-twice : (a : Area) (l k : List ℕ) (v : Buffers) → withBytes a l (withBytes a k v) ≡ withBytes a l v
+area-twice zeroth l k v = refl
+area-twice first l k v = refl
 
 -- ---- a move done again
 
-pub read-again : (g : Geometry) (p load t : ℕ) (v : Buffers) → readMove g p load t (readMove g p load t v) ≡ readMove g p load t v
+read-again : (g : Geometry) (p load t : ℕ) (v : Buffers) → readMove g p load t (readMove g p load t v) ≡ readMove g p load t v
 unfolding readMove
 read-again g p load t v =
-    ap (λ (l : List ℕ). withMemory l v)
-    (ap (λ (a : List ℕ). copied (readTakes g t) (readFrom g load) (g .r) a (copied (readTakes g t) (readFrom g load) (g .r) (areaOf p v) (v .memory)))
-    (memory-area (even p) (copied (readTakes g t) (readFrom g load) (g .r) (areaOf p v) (v .memory)) v)
-    ∙ copied-again (readTakes g t) (readFrom g load) (g .r) (areaOf p v) (v .memory))
+    let read = copied (readTakes g t) (readFrom g load) (g .r) (bytesOf (areaRead p) v) (v .memory) in
+    rw (memory-area (areaRead p) read v, copied-again)
 
-pub write-again : (g : Geometry) (pass : Pass) (p load t : ℕ) (v : Buffers) → writeMove g pass p load t (writeMove g pass p load t v) ≡ writeMove g pass p load t v
+write-again : (g : Geometry) (pass : Pass) (p load t : ℕ) (v : Buffers)
+    → writeMove g pass p load t (writeMove g pass p load t v) ≡ writeMove g pass p load t v
 unfolding writeMove
-write-again g pass p load t v =
-    with-twice (not (even p)) (into (w .memory) (areaBy (not (even p)) w)) (into (v .memory) (areaBy (not (even p)) v)) v
-    ∙ ap (λ (l : List ℕ). withAreaBy (not (even p)) l v)
-    (ap₂ into (area-memory (not (even p)) (into (v .memory) (areaBy (not (even p)) v)) v) (area-same (not (even p)) (into (v .memory) (areaBy (not (even p)) v)) v)
-    ∙ copied-again (writeTakes g pass load t) (writeFrom g pass) (g .r) (v .memory) (areaBy (not (even p)) v))
-  where
-    into : List ℕ → List ℕ → List ℕ
-    into mem a = copied (writeTakes g pass load t) (writeFrom g pass) (g .r) mem a
-
-    w : Buffers
-    w = withAreaBy (not (even p)) (into (v .memory) (areaBy (not (even p)) v)) v
+write-again g pass p load t v = rw (area-twice, area-memory, area-same, copied-again)
 
 by-phase : (k : Phase) (f h : Buffers → Buffers) (v : Buffers) → f (f v) ≡ f v → h (h v) ≡ h v
     → byPhase k (f (byPhase k (f v) (h v))) (h (byPhase k (f v) (h v))) ≡ byPhase k (f v) (h v)
@@ -67,6 +56,8 @@ pub move-again : (route : Route) (s : ℕ) (v : Buffers) → move route s (move 
 unfolding move
 move-again route s v =
     let g = route .geometry in
-    by-phase (phaseOf route s) (readMove g (passOf route s) (loadOf route s) (turnOf route s)) (writeMove g (passAt route (passOf route s)) (passOf route s) (loadOf route s) (turnOf route s)) v
-    (read-again g (passOf route s) (loadOf route s) (turnOf route s) v)
-    (write-again g (passAt route (passOf route s)) (passOf route s) (loadOf route s) (turnOf route s) v)
+    let p = passOf route s in
+    let l = loadOf route s in
+    let t = tierOf route s in
+    by-phase (phaseOf route s) (readMove g p l t) (writeMove g (passAt route p) p l t) v
+    (read-again g p l t v) (write-again g (passAt route p) p l t v)

@@ -2,16 +2,13 @@
 use mathlib.Core.Path.{_∙_, _≡_, ap, refl, subst, sym}
 use mathlib.Core.Bool.{Bool, cond, false, true}
 use mathlib.Core.List.{List, [], _∷_}
-use Prim.Native.Nat.{_%_, _*_, _+_, _/_, _<_, _≤_, suc, zero, ℕ}
-use native.Mathlib.Nat.{div-lt-iff-lt-mul, le-of-eq, le-of-suc-le-suc, le-trans, mul-le-mul-right, not-suc-le-zero, suc-mul, zero-add}
+use Prim.Native.Nat.{_%_, _*_, _+_, _/_, _<_, suc, zero, ℕ}
+use native.Mathlib.Nat.{le-of-suc-le-suc, not-suc-le-zero, zero-add}
 use native.Mathlib.Omega.{arith}
 use lib.ListN.{drop, getD, length, length-drop, length-take}
 use lib.Seq.{ext-getD, getD-drop, getD-take}
+use Rattle.algebra.proofs.Digits.{share}
 use Rattle.moving.specs.Bytes.{copied, each, eachFrom, recordOf}
-
--- one of n shares of k bytes
-pub share : (t n k : ℕ) → t < n → t * k + k ≤ n * k
-share t n k h = le-trans (le-of-eq (sym (suc-mul t k))) (mul-le-mul-right k h)
 
 -- ---- each
 
@@ -31,7 +28,7 @@ getD-from f k (x ∷ xs) zero h = ap (λ (n : ℕ). f n x) (omega arith)
 getD-from f k (x ∷ xs) (suc i) h =
     getD-from f (suc k) xs i (le-of-suc-le-suc h) ∙ ap (λ (n : ℕ). f n (getD xs i 0)) (omega arith)
 
-pub getD-each : (f : ℕ → ℕ → ℕ) (l : List ℕ) (i : ℕ) → i < length l → getD (each f l) i 0 ≡ f i (getD l i 0)
+getD-each : (f : ℕ → ℕ → ℕ) (l : List ℕ) (i : ℕ) → i < length l → getD (each f l) i 0 ≡ f i (getD l i 0)
 unfolding each
 getD-each f l i h = getD-from f zero l i h ∙ ap (λ (n : ℕ). f n (getD l i 0)) (zero-add i)
 
@@ -51,40 +48,47 @@ each-ext f g l h = is-each g l (each f l) (length-each f l) (λ i b. getD-each f
 
 -- ---- copied
 
+module _ (from : ℕ → ℕ) (r : ℕ) (src dst : List ℕ) where
+  -- byte i, which is x before
+  abbrev byteBy : (ℕ → Bool) → ℕ → ℕ → ℕ
+  byteBy chosen i x = cond (chosen (i / r)) (getD src (from (i / r) * r + i % r) 0) x
+
+  -- what is chosen counts, and not how
+  pub copied-ext : (c k : ℕ → Bool) → ((y : ℕ) → c y ≡ k y) → copied c from r src dst ≡ copied k from r src dst
+  unfolding copied
+  copied-ext c k e = each-ext (byteBy c) (byteBy k) dst (λ i b. rw (e (i / r)))
+
+  pub copied-none : (c : ℕ → Bool) → ((y : ℕ) → c y ≡ false) → dst ≡ copied c from r src dst
+  unfolding copied
+  copied-none c e = is-each (byteBy c) dst dst refl (λ i b. rw (e (i / r)))
+
 module _ (chosen : ℕ → Bool) (from : ℕ → ℕ) (r : ℕ) (src dst : List ℕ) where
+  abbrev byteOf : ℕ → ℕ → ℕ
+  byteOf = byteBy from r src dst chosen
+
   pub length-copied : length (copied chosen from r src dst) ≡ length dst
   unfolding copied
-  length-copied = length-each (λ i x. cond (chosen (i / r)) (getD src (from (i / r) * r + i % r) 0) x) dst
+  length-copied = length-each byteOf dst
 
-  pub getD-copied : (i : ℕ) → i < length dst → getD (copied chosen from r src dst) i 0 ≡ cond (chosen (i / r)) (getD src (from (i / r) * r + i % r) 0) (getD dst i 0)
-  unfolding copied
-  getD-copied i h = getD-each (λ i x. cond (chosen (i / r)) (getD src (from (i / r) * r + i % r) 0) x) dst i h
+  module _ (i : ℕ) (h : i < length dst) where
+    pub getD-copied : getD (copied chosen from r src dst) i 0 ≡ cond (chosen (i / r)) (getD src (from (i / r) * r + i % r) 0) (getD dst i 0)
+    unfolding copied
+    getD-copied = getD-each byteOf dst i h
 
-  pub getD-chosen : (i : ℕ) → i < length dst → chosen (i / r) ≡ true → getD (copied chosen from r src dst) i 0 ≡ getD src (from (i / r) * r + i % r) 0
-  getD-chosen i h e = getD-copied i h ∙ ap (λ (t : Bool). cond t (getD src (from (i / r) * r + i % r) 0) (getD dst i 0)) e
+    pub getD-chosen : chosen (i / r) ≡ true → getD (copied chosen from r src dst) i 0 ≡ getD src (from (i / r) * r + i % r) 0
+    getD-chosen e = rw e at getD-copied
 
-  pub getD-left : (i : ℕ) → i < length dst → chosen (i / r) ≡ false → getD (copied chosen from r src dst) i 0 ≡ getD dst i 0
-  getD-left i h e = getD-copied i h ∙ ap (λ (t : Bool). cond t (getD src (from (i / r) * r + i % r) 0) (getD dst i 0)) e
+    pub getD-left : chosen (i / r) ≡ false → getD (copied chosen from r src dst) i 0 ≡ getD dst i 0
+    getD-left e = rw e at getD-copied
 
   -- a move done again changes nothing more
   pub copied-again : copied chosen from r src (copied chosen from r src dst) ≡ copied chosen from r src dst
   unfolding copied
-  copied-again = each-each f f f dst (λ i b. twice (chosen (i / r)) (getD src (from (i / r) * r + i % r) 0) (getD dst i 0))
+  copied-again = each-each byteOf byteOf byteOf dst (λ i b. twice (chosen (i / r)) (getD src (from (i / r) * r + i % r) 0) (getD dst i 0))
     where
-      f : ℕ → ℕ → ℕ
-      f i x = cond (chosen (i / r)) (getD src (from (i / r) * r + i % r) 0) x
-
       twice : (t : Bool) (w x : ℕ) → cond t w (cond t w x) ≡ cond t w x
       twice true w x = refl
       twice false w x = refl
-
--- ---- a record's bytes: record y < N of a buffer of N·r bytes, byte j < r of it
-
-pub byte-in : (y N r j : ℕ) → y < N → j < r → y * r + j < N * r
-byte-in y N r j hy hj = omega (arith, share y N r hy)
-
-pub record-of : (i N r : ℕ) → 0 < r → i < N * r → i / r < N
-record-of i N r h l = div-lt-iff-lt-mul h .1 l
 
 -- two buffers have the same record where they have its bytes
 pub same-record : (r : ℕ) (l k : List ℕ) (N y x : ℕ) → length l ≡ N * r → length k ≡ N * r → y < N → x < N

@@ -1,8 +1,9 @@
 -- Why does a step move one block on a drive? Assumes nothing.
 use mathlib.Core.Path.{_∙_, _≡_, ap, ap₂, refl, subst, sym}
 use mathlib.Core.Bool.{Bool, _&&_, false, false≢true, true}
-use Prim.Native.Nat.{_%_, _*_, _+_, _-_, _/_, _<_, _^_, _≤_, ℕ}
-use native.Mathlib.Nat.{add-assoc, add-mul, div-add-mod', div-div-eq-div-mul, div-lt-iff-lt-mul, mod-eq-of-lt, mod-lt, mul-assoc, mul-comm, mul-div-cancel, mul-lt-mul-of-pos-right}
+use Prim.Native.Nat.{_%_, _*_, _+_, _-_, _/_, _<_, _^_, ℕ}
+use native.Mathlib.Nat.{add-assoc, add-mul, div-add-mod', div-div-eq-div-mul, div-lt-iff-lt-mul, mod-eq-of-lt, mod-lt, mul-assoc, mul-div-cancel}
+use native.Mathlib.Nat.{mul-lt-mul-of-pos-right, mul-right-comm}
 use native.Mathlib.Omega.{arith}
 use borrow.Author.Tests.{eq-eqb, eqb-true, ne-eqb}
 use lib.Arith.{digits-div, digits-lt, digits-mod}
@@ -10,104 +11,108 @@ use lib.Bits.{bitXor, xor-shifted}
 use lib.Dec.{eqb}
 use lib.Pow.{high, low, mod-mod-pow, pow-add, pow-pos}
 use lib.ListN.{length, take}
+use Rattle.algebra.proofs.Digits.{bits-below, bits-from, bits-mid, pow-split}
 use Rattle.algebra.proofs.Search.{and-l, and-r}
 use Rattle.algebra.specs.Matrix.{columns, inverse}
 use Rattle.algebra.specs.Vector.{comb}
-use Rattle.bank.specs.Geometry.{Allowed, block, blockAt, driveAt, drives, loadAt, loads, memory, records, stripeAt, stripes}
+use Rattle.bank.specs.Geometry.{block, blockAt, driveAt, drives, loadAt, loads, memorySize, records, tierAt, tiers}
 use Rattle.bank.specs.declared.Geometry.{Geometry}
-use Rattle.moving.proofs.All.{target-lt}
-use Rattle.moving.proofs.Low.{bits-mid, block-low, block-split, land-block, landed-from, lands, low-block, place-block, place-of, whole-block}
-use Rattle.moving.proofs.Numbers.{load-of-lt, memory-is, pass-of-lt, pow-split, stripes-pow, turn-lt}
+use Rattle.moving.proofs.All.{target-in}
+use Rattle.moving.proofs.Low.{block-low, land-block, landed-from, lands, place-block, place-of, whole-block}
+use Rattle.moving.proofs.Numbers.{load-of-lt, memory-is, pass-of-lt, tier-of-lt, tiers-pow}
 use Rattle.moving.specs.Blocks.{blockStart, landing, placeIn, stepBlock, targetBlock}
-use Rattle.moving.specs.Number.{loadOf, passOf, phaseOf, turnOf}
+use Rattle.moving.specs.Number.{loadOf, passOf, phaseOf, tierOf}
 use Rattle.moving.specs.Step.{byPhase, sourceOf, writeFrom, writeTakes}
-use Rattle.planning.specs.Running.{PassRuns, Runs}
 use Rattle.planning.specs.declared.Phase.{Phase}
 use Rattle.planning.specs.declared.Phase.the-variants.{Reads, Writes}
 use Rattle.planning.specs.Pass.{Pass, Route, passAt, total}
+use Rattle.planning.specs.Inner.{PassRuns, Runs}
+use Rattle.bank.proofs.Limits.{Allowed}
+use Rattle.planning.proofs.Running.{runs-allowed}
 
 -- ---- an address of a geometry
 
 module _ (g : Geometry) (ok : Allowed g) where
-  -- the low m bits: stripe, drive, offset
-  low-split : (y : ℕ) → y % memory g / block g ≡ stripeAt g y * drives g + driveAt g y
-  unfolding stripeAt driveAt
+  -- the low m bits: tier, drive, offset
+  low-split : (y : ℕ) → y % memorySize g / block g ≡ tierAt g y * drives g + driveAt g y
+  unfolding tierAt driveAt
   low-split y =
-      sym (div-add-mod' (y % memory g / block g) (drives g))
-      ∙ ap₂ (λ (a c : ℕ). a * drives g + c) (div-div-eq-div-mul (y % memory g) (block g) (drives g))
-      (ap (λ (k : ℕ). k % drives g) (bits-mid (g .b) (g .m) (omega (arith, ok .drives-fit)) y)
-      ∙ ap (λ (k : ℕ). y / block g % 2 ^ k % drives g) (omega (arith, ok .drives-fit))
+      sym (div-add-mod' (y % memorySize g / block g) (drives g))
+      ∙ ap₂ (λ (a c : ℕ). a * drives g + c) (div-div-eq-div-mul (y % memorySize g) (block g) (drives g))
+      (ap (λ (k : ℕ). k % drives g) (bits-mid (g .b) (g .m) (omega arith) y)
+      ∙ ap (λ (k : ℕ). y / block g % 2 ^ k % drives g) (omega arith)
       ∙ mod-mod-pow (y / block g) (g .m - (g .b + g .d)) (g .d))
 
   drive-lt : (y : ℕ) → driveAt g y < drives g
   unfolding driveAt
   drive-lt y = mod-lt (y / block g) (pow-pos (g .d))
 
-  pub first-lt : (t q : ℕ) → t < stripes g → q < drives g → blockStart g t q < memory g
-  first-lt t q ht hq =
-      subst (λ (k : ℕ). blockStart g t q < k) (sym (memory-is g ok ∙ ap (λ (k : ℕ). stripes g * k) (mul-comm (block g) (drives g)) ∙ sym (mul-assoc (stripes g) (drives g) (block g))))
-      (mul-lt-mul-of-pos-right (digits-lt ht hq) (pow-pos (g .b)))
+  -- a memoryload is its tiers, each a block on every drive
+  memory-blocks : memorySize g ≡ tiers g * drives g * block g
+  memory-blocks = memory-is g ok ∙ sym (mul-assoc (tiers g) (block g) (drives g)) ∙ mul-right-comm (tiers g) (block g) (drives g)
+
+  pub first-lt : (t q : ℕ) → t < tiers g → q < drives g → blockStart g t q < memorySize g
+  first-lt t q ht hq = subst (λ (k : ℕ). blockStart g t q < k) (sym memory-blocks) (mul-lt-mul-of-pos-right (digits-lt ht hq) (pow-pos (g .b)))
 
   first-block : (t q : ℕ) → blockStart g t q / block g ≡ t * drives g + q
   first-block t q = mul-div-cancel (t * drives g + q) (pow-pos (g .b))
 
-  same-stripe : (y t q : ℕ) → q < drives g → y % memory g / block g ≡ t * drives g + q → (stripeAt g y ≡ t) × (driveAt g y ≡ q)
-  same-stripe y t q hq e =
-      let k : stripeAt g y * drives g + driveAt g y ≡ t * drives g + q = sym (low-split y) ∙ e in (
-        sym (digits-div (stripeAt g y) (drive-lt y)) ∙ ap (λ (i : ℕ). i / drives g) k ∙ digits-div t hq,
-        sym (digits-mod (stripeAt g y) (drive-lt y)) ∙ ap (λ (i : ℕ). i % drives g) k ∙ digits-mod t hq,
+  same-tier : (y t q : ℕ) → q < drives g → y % memorySize g / block g ≡ t * drives g + q → (tierAt g y ≡ t) × (driveAt g y ≡ q)
+  same-tier y t q hq e =
+      let k : tierAt g y * drives g + driveAt g y ≡ t * drives g + q = sym (low-split y) ∙ e in (
+        sym (digits-div (tierAt g y) (drive-lt y)) ∙ ap (λ (i : ℕ). i / drives g) k ∙ digits-div t hq,
+        sym (digits-mod (tierAt g y) (drive-lt y)) ∙ ap (λ (i : ℕ). i % drives g) k ∙ digits-mod t hq,
       )
 
-  -- an address's block, from its load, its stripe and its drive: so a read's block on drive q is block load·M/B + t·D + q
-  read-block : (x : ℕ) → blockAt g x ≡ loadAt g x * 2 ^ (g .m - g .b) + (stripeAt g x * drives g + driveAt g x)
+  -- an address's block, from its load, its tier and its drive: so a read's block on drive q is block load·M/B + t·D + q
+  read-block : (x : ℕ) → blockAt g x ≡ loadAt g x * 2 ^ (g .m - g .b) + (tierAt g x * drives g + driveAt g x)
   unfolding blockAt loadAt
-  read-block x = block-split (g .b) (g .m) (omega (arith, ok .block-below)) x ∙ ap (λ (k : ℕ). x / memory g * 2 ^ (g .m - g .b) + k) (low-split x)
+  read-block x = bits-from (g .b) (g .m) (omega arith) x ∙ ap (λ (k : ℕ). x / memorySize g * 2 ^ (g .m - g .b) + k) (low-split x)
 
   -- the blocks of a load
-  blocks-of : stripes g * drives g ≡ 2 ^ (g .m - g .b)
-  blocks-of = ap (λ (k : ℕ). k * drives g) (stripes-pow g ok) ∙ sym (pow-add 2 (g .m - (g .b + g .d)) (g .d)) ∙ ap (λ (k : ℕ). 2 ^ k) (omega (arith, ok .drives-fit))
+  blocks-of : tiers g * drives g ≡ 2 ^ (g .m - g .b)
+  blocks-of =
+      ap (λ (k : ℕ). k * drives g) (tiers-pow g ok) ∙ sym (pow-add 2 (g .m - (g .b + g .d)) (g .d)) ∙ ap (λ (k : ℕ). 2 ^ k) (omega arith)
 
-  read-block-in : (l t q : ℕ) → l < loads g → t < stripes g → q < drives g
-      → (l * 2 ^ (g .m - g .b) + (t * drives g + q) < 2 ^ (g .n - g .b)) × ((l * 2 ^ (g .m - g .b) + (t * drives g + q)) % drives g ≡ q)
-  read-block-in l t q hl ht hq = (
-    subst (λ (k : ℕ). l * 2 ^ (g .m - g .b) + (t * drives g + q) < k) (sym (pow-add 2 (g .n - g .m) (g .m - g .b)) ∙ ap (λ (k : ℕ). 2 ^ k) (omega (arith, ok .block-below, ok .memory-below)))
-        (digits-lt hl (subst (λ (k : ℕ). t * drives g + q < k) blocks-of (digits-lt ht hq))),
-    ap (λ (k : ℕ). k % drives g)
-        (ap (λ (k : ℕ). l * k + (t * drives g + q)) (sym blocks-of) ∙ sym (add-assoc (l * (stripes g * drives g)) (t * drives g) q)
-        ∙ ap (λ (k : ℕ). k + q) (ap (λ (k : ℕ). k + t * drives g) (sym (mul-assoc l (stripes g) (drives g))) ∙ sym (add-mul (l * stripes g) t (drives g))))
-        ∙ digits-mod (l * stripes g + t) hq,
-  )
+  module _ (l t q : ℕ) (hl : l < loads g) (ht : t < tiers g) (hq : q < drives g) where
+    abbrev readBlock : ℕ
+    readBlock = l * 2 ^ (g .m - g .b) + (t * drives g + q)
+
+    read-block-in : (readBlock < 2 ^ (g .n - g .b)) × (readBlock % drives g ≡ q)
+    read-block-in = (
+      subst (λ (k : ℕ). readBlock < k) (sym (pow-add 2 (g .n - g .m) (g .m - g .b)) ∙ ap (λ (k : ℕ). 2 ^ k) (omega arith))
+          (digits-lt hl (subst (λ (k : ℕ). t * drives g + q < k) blocks-of (digits-lt ht hq))),
+      ap (λ (k : ℕ). k % drives g)
+          (ap (λ (k : ℕ). l * k + (t * drives g + q)) (sym blocks-of) ∙ sym (add-assoc (l * (tiers g * drives g)) (t * drives g) q)
+          ∙ ap (λ (k : ℕ). k + q)
+          (ap (λ (k : ℕ). k + t * drives g) (sym (mul-assoc l (tiers g) (drives g))) ∙ sym (add-mul (l * tiers g) t (drives g))))
+          ∙ digits-mod (l * tiers g + t) hq,
+    )
 
   -- ---- a write
 
-  module _ (pass : Pass) (runs : PassRuns g pass) (load t : ℕ) (hl : load < loads g) (ht : t < stripes g) where
-    hb : g .b ≤ g .m
-    hb = omega (arith, ok .block-below)
-
-    hm : g .m ≤ g .n
-    hm = omega (arith, ok .memory-below)
+  module _ (pass : Pass) (runs : PassRuns g pass) (load t : ℕ) (hl : load < loads g) (ht : t < tiers g) where
+    abbrev start : ℕ → ℕ
+    start q = blockStart g t q
 
     -- a record that is written on drive q lies in the one block
-    written→block : (y q : ℕ) → y < records g → q < drives g → loadAt g (sourceOf g pass y) ≡ load → stripeAt g y ≡ t → driveAt g y ≡ q → blockAt g y ≡ targetBlock g pass load t q
+    written→block : (y q : ℕ) → y < records g → q < drives g → loadAt g (sourceOf g pass y) ≡ load → tierAt g y ≡ t → driveAt g y ≡ q
+        → blockAt g y ≡ targetBlock g pass load t q
     unfolding blockAt loadAt targetBlock landing placeIn
     written→block y q hy hq el et eq =
-        ap (λ (k : ℕ). k / block g) (sym (lands (g .n) (g .b) (g .m) (pass .rows) (pass .complement) hb hm (runs .rows-all) (runs .complement-within) (runs .regular) (runs .dry) load y hy el))
-        ∙ land-block (g .n) (g .b) (g .m) (pass .rows) (pass .complement) hb hm (runs .rows-all) (runs .complement-within) (runs .regular) (runs .dry) load (y % memory g) (blockStart g t q)
-        (mod-lt y (pow-pos (g .m))) (first-lt t q ht hq)
+        ap (λ (k : ℕ). k / block g) (sym (lands ok runs load y hy el))
+        ∙ land-block ok runs load (y % memorySize g) (start q) (mod-lt y (pow-pos (g .m))) (first-lt t q ht hq)
         (low-split y ∙ ap₂ (λ (a c : ℕ). a * drives g + c) et eq ∙ sym (first-block t q))
 
     -- and each record of that block is written, on that drive
-    block→written : (y q : ℕ) → q < drives g → blockAt g y ≡ targetBlock g pass load t q → (loadAt g (sourceOf g pass y) ≡ load) × (stripeAt g y ≡ t) × (driveAt g y ≡ q)
+    block→written : (y q : ℕ) → q < drives g → blockAt g y ≡ targetBlock g pass load t q
+        → (loadAt g (sourceOf g pass y) ≡ load) × (tierAt g y ≡ t) × (driveAt g y ≡ q)
     unfolding blockAt loadAt targetBlock landing placeIn
     block→written y q hq e =
-        let s = same-stripe y t q hq
-        (block-low (g .n) (g .b) (g .m) (pass .rows) (pass .complement) hb hm (runs .rows-all) (runs .complement-within) (runs .regular) (runs .dry) load
-        (blockStart g t q) y (first-lt t q ht hq) e ∙ first-block t q) in (
-          ap (λ (k : ℕ). sourceOf g pass k / memory g)
-              (sym (whole-block (g .n) (g .b) (g .m) (pass .rows) (pass .complement) hb hm (runs .rows-all) (runs .complement-within) (runs .regular) (runs .dry) load
-              (blockStart g t q) y (first-lt t q ht hq) e))
-              ∙ landed-from (g .n) (g .b) (g .m) (pass .rows) (pass .complement) hb hm (runs .rows-all) (runs .complement-within) (runs .regular) (runs .dry) load
-              (y % memory g) hl (mod-lt y (pow-pos (g .m))),
+        let h = first-lt t q ht hq in
+        let s = same-tier y t q hq (block-low ok runs load (start q) y h e ∙ first-block t q) in (
+          ap (λ (k : ℕ). sourceOf g pass k / memorySize g) (sym (whole-block ok runs load (start q) y h e))
+              ∙ landed-from ok runs load (y % memorySize g) hl (mod-lt y (pow-pos (g .m))),
           s .0,
           s .1,
         )
@@ -116,41 +121,50 @@ module _ (g : Geometry) (ok : Allowed g) where
     unfolding targetBlock blockAt landing driveAt
     target-block-in q hq = (
       div-lt-iff-lt-mul (pow-pos (g .b)) .1
-          (subst (λ (k : ℕ). landing g pass load (blockStart g t q) < k) (pow-split (g .b) (g .n) (omega (arith, hb, hm)))
-          (target-lt g pass runs (load * memory g + placeIn g pass load (blockStart g t q)))),
-      block→written (landing g pass load (blockStart g t q)) q hq refl .2,
+          (subst (λ (k : ℕ). landing g pass load (start q) < k) (pow-split (g .b) (g .n) (omega arith))
+          (target-in g pass runs (load * memorySize g + placeIn g pass load (start q)))),
+      block→written (landing g pass load (start q)) q hq refl .2,
     )
 
     -- the same as tests, for code that writes block by block
-    pub block-test : (y : ℕ) → y < records g → eqb (blockAt g y) (targetBlock g pass load t (driveAt g y)) ≡ writeTakes g pass load t y
-    unfolding writeTakes
-    block-test y hy = go (eqb (loadAt g (sourceOf g pass y)) load && eqb (stripeAt g y) t) refl
-      where
-        go : (s : Bool) → eqb (loadAt g (sourceOf g pass y)) load && eqb (stripeAt g y) t ≡ s → eqb (blockAt g y) (targetBlock g pass load t (driveAt g y)) ≡ s
-        go true e =
-            eq-eqb (blockAt g y) (targetBlock g pass load t (driveAt g y))
-            (written→block y (driveAt g y) hy (drive-lt y)
-            (eqb-true (loadAt g (sourceOf g pass y)) load (and-l (eqb (loadAt g (sourceOf g pass y)) load) (eqb (stripeAt g y) t) e))
-            (eqb-true (stripeAt g y) t (and-r (eqb (loadAt g (sourceOf g pass y)) load) (eqb (stripeAt g y) t) e)) refl)
-        go false e =
-            ne-eqb (blockAt g y) (targetBlock g pass load t (driveAt g y))
-            (λ q. let w = block→written y (driveAt g y) (drive-lt y) q in
-            false≢true (sym e ∙ ap₂ _&&_ (eq-eqb (loadAt g (sourceOf g pass y)) load (w .0)) (eq-eqb (stripeAt g y) t (w .1))))
+    module _ (y : ℕ) (hy : y < records g) where
+      abbrev fromLoad : Bool
+      fromLoad = eqb (loadAt g (sourceOf g pass y)) load
 
-    -- and where record k of the block comes from, by the place of its first record and the first b columns of the inverse of the low rows
-    pub block-place : (y : ℕ) → y < records g → loadAt g (sourceOf g pass y) ≡ load → stripeAt g y ≡ t
-        → bitXor (placeIn g pass load (blockStart g t (driveAt g y))) (comb (columns (g .b) (inverse (g .m) (take (g .m) (pass .rows)))) (y % block g)) ≡ writeFrom g pass y
-    unfolding loadAt placeIn writeFrom
-    block-place y hy el et =
-        sym (place-block (g .n) (g .b) (g .m) (pass .rows) (pass .complement) hb hm (runs .rows-all) (runs .complement-within) (runs .regular) (runs .dry) load
-        (blockStart g t (driveAt g y)) (y % block g) (first-lt t (driveAt g y) ht (drive-lt y)) (mod-lt y (pow-pos (g .b))))
-        ∙ ap (placeIn g pass load) (xor-shifted (t * drives g + driveAt g y) (g .b) (y % block g) (mod-lt y (pow-pos (g .b))) ∙ whole)
-        ∙ place-of (g .n) (g .b) (g .m) (pass .rows) (pass .complement) hb hm (runs .rows-all) (runs .complement-within) (runs .regular) (runs .dry) load y hy el
-      where
-        whole : blockStart g t (driveAt g y) + y % block g ≡ y % memory g
-        whole =
-            ap₂ (λ (a c : ℕ). a * block g + c) (ap (λ (k : ℕ). k * drives g + driveAt g y) (sym et) ∙ sym (low-split y)) (sym (low-block (g .b) (g .m) hb y))
-            ∙ div-add-mod' (y % memory g) (block g)
+      abbrev toTier : Bool
+      toTier = eqb (tierAt g y) t
+
+      pub block-test : eqb (blockAt g y) (targetBlock g pass load t (driveAt g y)) ≡ writeTakes g pass load t y
+      unfolding writeTakes
+      block-test = go (fromLoad && toTier) refl
+        where
+          go : (s : Bool) → fromLoad && toTier ≡ s → eqb (blockAt g y) (targetBlock g pass load t (driveAt g y)) ≡ s
+          go true e =
+              eq-eqb (blockAt g y) (targetBlock g pass load t (driveAt g y))
+              (written→block y (driveAt g y) hy (drive-lt y)
+              (eqb-true (loadAt g (sourceOf g pass y)) load (and-l fromLoad toTier e)) (eqb-true (tierAt g y) t (and-r fromLoad toTier e)) refl)
+          go false e =
+              ne-eqb (blockAt g y) (targetBlock g pass load t (driveAt g y))
+              (λ q. let w = block→written y (driveAt g y) (drive-lt y) q in
+              false≢true (sym e ∙ ap₂ _&&_ (eq-eqb (loadAt g (sourceOf g pass y)) load (w .0)) (eq-eqb (tierAt g y) t (w .1))))
+
+      -- and where record k of the block comes from, by the place of its first record and the first b columns of the inverse of the low rows
+      pub block-place : loadAt g (sourceOf g pass y) ≡ load → tierAt g y ≡ t
+          → bitXor (placeIn g pass load (start (driveAt g y))) (comb (columns (g .b) (inverse (g .m) (take (g .m) (pass .rows)))) (y % block g))
+          ≡ writeFrom g pass y
+      unfolding loadAt placeIn writeFrom
+      block-place el et =
+          let k = y % block g in
+          let hk = mod-lt y (pow-pos (g .b)) in
+          let q = driveAt g y in
+          sym (place-block ok runs load (start q) k (first-lt t q ht (drive-lt y)) hk)
+          ∙ ap (placeIn g pass load) (xor-shifted (t * drives g + q) (g .b) k hk ∙ whole) ∙ place-of ok runs load y hy el
+        where
+          whole : start (driveAt g y) + y % block g ≡ y % memorySize g
+          whole =
+              ap₂ (λ (a c : ℕ). a * block g + c) (ap (λ (k : ℕ). k * drives g + driveAt g y) (sym et) ∙ sym (low-split y))
+              (sym (bits-below (g .b) (g .m) (omega arith) y))
+              ∙ div-add-mod' (y % memorySize g) (block g)
 
 -- ---- a step
 
@@ -164,12 +178,12 @@ module _ (route : Route) (s : ℕ) where
   -- the step's block on drive q, by its phase
   abbrev blockBy : Phase → ℕ → ℕ
   blockBy f q =
-      byPhase f (loadOf route s * 2 ^ (geo .m - geo .b) + (turnOf route s * drives geo + q)) (targetBlock geo its-pass (loadOf route s) (turnOf route s) q)
+      byPhase f (loadOf route s * 2 ^ (geo .m - geo .b) + (tierOf route s * drives geo + q)) (targetBlock geo its-pass (loadOf route s) (tierOf route s) q)
 
-  -- ONE BLOCK ON A DRIVE. What a read takes for place q of its stripe lies in the step's block on its drive
-  pub step-read : Allowed geo → phaseOf route s ≡ Reads → (q : ℕ) → q < memory geo → stripeAt geo q ≡ turnOf route s
-      → blockAt geo (loadOf route s * memory geo + q) ≡ stepBlock route s (driveAt geo (loadOf route s * memory geo + q))
-  unfolding loadAt stripeAt stepBlock
+  -- ONE BLOCK ON A DRIVE. What a read takes for place q of its tier lies in the step's block on its drive
+  pub step-read : Allowed geo → phaseOf route s ≡ Reads → (q : ℕ) → q < memorySize geo → tierAt geo q ≡ tierOf route s
+      → blockAt geo (loadOf route s * memorySize geo + q) ≡ stepBlock route s (driveAt geo (loadOf route s * memorySize geo + q))
+  unfolding loadAt tierAt stepBlock
   step-read ok e q hq t =
       read-block geo ok x
       ∙ ap₂ (λ (l u : ℕ). l * 2 ^ (geo .m - geo .b) + (u * drives geo + driveAt geo x)) (high (loadOf route s) (geo .m) hq)
@@ -177,25 +191,25 @@ module _ (route : Route) (s : ℕ) where
       ∙ sym (ap (λ (f : Phase). blockBy f (driveAt geo x)) e)
     where
       x : ℕ
-      x = loadOf route s * memory geo + q
+      x = loadOf route s * memorySize geo + q
 
   module _ (runs : Runs route) (hs : s < total route) where
     pass-runs : PassRuns geo its-pass
     unfolding total
-    pass-runs = runs .each-runs (passOf route s) (pass-of-lt route (runs .allowed) s (length (route .passes)) hs)
+    pass-runs = runs .each-runs (passOf route s) (pass-of-lt route (runs-allowed route runs) s (length (route .passes)) hs)
 
     hl : loadOf route s < loads geo
-    hl = load-of-lt route (runs .allowed) s
+    hl = load-of-lt route (runs-allowed route runs) s
 
-    ht : turnOf route s < stripes geo
-    ht = turn-lt route (runs .allowed) s
+    ht : tierOf route s < tiers geo
+    ht = tier-of-lt route (runs-allowed route runs) s
 
     -- and a write writes record y exactly when y lies in the step's block on y's drive
     pub step-write : phaseOf route s ≡ Writes → (y : ℕ) → y < records geo
-        → writeTakes geo its-pass (loadOf route s) (turnOf route s) y ≡ eqb (blockAt geo y) (stepBlock route s (driveAt geo y))
+        → writeTakes geo its-pass (loadOf route s) (tierOf route s) y ≡ eqb (blockAt geo y) (stepBlock route s (driveAt geo y))
     unfolding stepBlock
     step-write e y hy =
-        sym (block-test geo (runs .allowed) its-pass pass-runs (loadOf route s) (turnOf route s) hl ht y hy)
+        sym (block-test geo (runs-allowed route runs) its-pass pass-runs (loadOf route s) (tierOf route s) hl ht y hy)
         ∙ sym (ap (λ (f : Phase). eqb (blockAt geo y) (blockBy f (driveAt geo y))) e)
 
     -- the step's block on drive q is a block of the area, on that drive
@@ -204,5 +218,5 @@ module _ (route : Route) (s : ℕ) where
     step-block-in q hq = go (phaseOf route s)
       where
         go : (f : Phase) → (blockBy f q < 2 ^ (geo .n - geo .b)) × (blockBy f q % drives geo ≡ q)
-        go Reads = read-block-in geo (runs .allowed) (loadOf route s) (turnOf route s) q hl ht hq
-        go Writes = target-block-in geo (runs .allowed) its-pass pass-runs (loadOf route s) (turnOf route s) hl ht q hq
+        go Reads = read-block-in geo (runs-allowed route runs) (loadOf route s) (tierOf route s) q hl ht hq
+        go Writes = target-block-in geo (runs-allowed route runs) its-pass pass-runs (loadOf route s) (tierOf route s) hl ht q hq

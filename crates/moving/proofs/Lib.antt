@@ -1,5 +1,7 @@
 pub mod Bytes
+pub mod Laid
 pub mod Fits
+pub mod Moves
 pub mod Numbers
 pub mod Again
 pub mod Calls

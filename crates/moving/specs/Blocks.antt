@@ -1,22 +1,23 @@
--- Where do a load's records land, in a form that code computes? Assumes nothing.
+-- Where do a load's records land, in a form that code computes? What proofs and inner contracts go by; the rules need none of it.
+-- Assumes nothing.
 use Prim.Native.Nat.{ℕ, _+_, _-_, _*_, _%_, _^_}
 use lib.ListN.{take}
 use Rattle.bank.specs.declared.Geometry.{Geometry}
-use Rattle.bank.specs.Geometry.{block, drives, memory, blockAt}
+use Rattle.bank.specs.Geometry.{block, drives, memorySize, blockAt}
 use Rattle.algebra.specs.Matrix.{target, source}
 use Rattle.planning.specs.Pass.{Pass, Route, passAt}
-use Rattle.moving.specs.Number.{passOf, loadOf, phaseOf, turnOf}
+use Rattle.moving.specs.Number.{passOf, loadOf, phaseOf, tierOf}
 use Rattle.moving.specs.Step.{byPhase}
 
 -- the memory place of the record of this load whose target has the low m bits w: one solution of rows 0..m-1 on the columns below m
 unfoldable pub placeIn : Geometry → Pass → ℕ → ℕ → ℕ
-placeIn g pass load w = source (g .m) (take (g .m) (pass .rows)) (target (pass .rows) (pass .complement) (load * memory g) % memory g) w
+placeIn g pass load w = source (g .m) (take (g .m) (pass .rows)) (target (pass .rows) (pass .complement) (load * memorySize g) % memorySize g) w
 
--- that record's target
+-- the target of the record of this load whose target has the low m bits w
 unfoldable pub landing : Geometry → Pass → ℕ → ℕ → ℕ
-landing g pass load w = target (pass .rows) (pass .complement) (load * memory g + placeIn g pass load w)
+landing g pass load w = target (pass .rows) (pass .complement) (load * memorySize g + placeIn g pass load w)
 
--- the low m bits of the first record of a block in stripe t on drive q
+-- the low m bits of the first record of a block in tier t on drive q
 abbrev pub blockStart : Geometry → ℕ → ℕ → ℕ
 blockStart g t q = (t * drives g + q) * block g
 
@@ -28,5 +29,5 @@ targetBlock g pass load t q = blockAt g (landing g pass load (blockStart g t q))
 unfoldable pub stepBlock : Route → ℕ → ℕ → ℕ
 stepBlock route s q =
     byPhase (phaseOf route s)
-    (loadOf route s * 2 ^ (route .geometry .m - route .geometry .b) + (turnOf route s * drives (route .geometry) + q))
-    (targetBlock (route .geometry) (passAt route (passOf route s)) (loadOf route s) (turnOf route s) q)
+    (loadOf route s * 2 ^ (route .geometry .m - route .geometry .b) + (tierOf route s * drives (route .geometry) + q))
+    (targetBlock (route .geometry) (passAt route (passOf route s)) (loadOf route s) (tierOf route s) q)

@@ -1,8 +1,7 @@
 -- What does a buffer hold after a move, byte by byte and record by record? Record x is the r bytes from byte x·r on. Assumes nothing.
 use mathlib.Core.Bool.{Bool, cond}
 use mathlib.Core.List.{List, [], _∷_}
-use Prim.Native.Nat.{ℕ, zero, suc, _+_, _-_, _*_, _/_, _%_}
-use lib.Dec.{eqb, ltb}
+use Prim.Native.Nat.{ℕ, zero, suc, _+_, _*_, _/_, _%_}
 use lib.ListN.{getD, take, drop}
 
 -- the list with f k x, f (k + 1) y, .. in the place of its elements x, y, ..
@@ -17,18 +16,6 @@ each f l = eachFrom f zero l
 -- dst after a move from src: record y, where it is chosen, becomes record `from y` of src; every other byte stays
 unfoldable pub copied : (ℕ → Bool) → (ℕ → ℕ) → ℕ → List ℕ → List ℕ → List ℕ
 copied chosen from r src dst = each (λ i x. cond (chosen (i / r)) (getD src (from (i / r) * r + i % r) 0) x) dst
-
--- v where i is one of the k indices from a on, and x elsewhere
-unfoldable pub within : ℕ → ℕ → ℕ → ℕ → ℕ → ℕ
-within a k i v x = cond (ltb i a) x (cond (ltb i (a + k)) v x)
-
--- dst with its k bytes from index a on taken from src, from src's index s on
-unfoldable pub laid : List ℕ → ℕ → ℕ → List ℕ → ℕ → List ℕ
-laid dst a k src s = each (λ i x. within a k i (getD src (s + (i - a)) 0) x) dst
-
--- the bytes of block Y q become W, on each of D drives; a block is of `size` records of r bytes, and block y lies on drive y % D
-unfoldable pub landed : (ℕ → ℕ) → (ℕ → ℕ) → ℕ → ℕ → ℕ → List ℕ → List ℕ
-landed Y W r size D area = each (λ i x. cond (eqb (i / r / size) (Y (i / r / size % D))) (W i) x) area
 
 -- record x of a buffer
 abbrev pub recordOf : ℕ → List ℕ → ℕ → List ℕ

@@ -1,23 +1,24 @@
 -- What does a call for a step, or for a run of steps, answer and leave? Assumes nothing.
 use mathlib.Core.Bool.{Bool, not, cond, _||_}
 use mathlib.Core.List.{List}
-use Prim.Native.Nat.{ℕ, zero, suc, _+_, _-_, min}
+use Prim.Native.Nat.{ℕ, _+_, _-_, min}
 use lib.Dec.{eqb, leb}
+use lib.ListN.{length}
 use Rattle.bank.specs.Checks.{refuse}
 use Rattle.planning.specs.declared.Plan.{Plan}
 use Rattle.planning.specs.declared.state.State.{State}
-use Rattle.planning.specs.Pass.{Route, total}
+use Rattle.planning.specs.Pass.{total}
 use Rattle.planning.specs.State.{freshState, furtherBy}
 use Rattle.planning.specs.Stored.{routeOf}
 use Rattle.planning.specs.Running.{canRun}
-use Rattle.moving.specs.Step.{Buffers, buffersOf, fits, move}
+use Rattle.moving.specs.Step.{Buffers, buffersOf, lengthsFit, move, movesFrom}
 
--- what a line has between two calls: the state, and the lent bytes
+-- what there is between two calls: the state, and the lent bytes
 pub record Moment : Type 0 where
   pub state : State
   pub buffers : Buffers
 
--- a line begins: the state is fresh
+-- before the first call: the state is fresh
 abbrev pub begun : Buffers → Moment
 begun v = record { state = freshState; buffers = v }
 
@@ -35,18 +36,26 @@ refuses k = not (eqb k 0 || eqb k 9)
 unfoldable pub turnNumber : ℕ → ℕ → ℕ → ℕ
 turnNumber all next asked = refuse (leb all asked) 6 (refuse (eqb asked next) 0 (refuse (eqb (asked + 1) next) 9 5))
 
--- what is checked before: 7, the plan can't run; 4, a buffer isn't of its length
+-- what is checked first, by the state and the lengths of the three buffers: 7, the plan can't run; 4, a buffer isn't of its length
+abbrev pub readyBy : Plan → State → ℕ → ℕ → ℕ → ℕ → ℕ
+readyBy plan state area0 area1 memory later =
+    refuse (not (canRun plan state)) 7 (refuse (not (lengthsFit (plan .geometry) area0 area1 memory)) 4 later)
+
+-- what is checked first, of a moment
 unfoldable pub readyNumber : Plan → Moment → ℕ → ℕ
-readyNumber plan moment later = refuse (not (canRun plan (moment .state))) 7 (refuse (not (fits (plan .geometry) (moment .buffers))) 4 later)
+readyNumber plan moment later =
+    let v = moment .buffers in
+    readyBy plan (moment .state) (length (v .area0)) (length (v .area1)) (length (v .memory)) later
 
 -- the number of a step call
 unfoldable pub stepNumber : Plan → Moment → ℕ → ℕ
 stepNumber plan moment asked = readyNumber plan moment (turnNumber (total (routeOf plan)) (moment .state .next .0) asked)
 
--- what follows a number: the state advances on 0; the move is made on 0 and 9; nothing else changes
+-- what follows a number: the state advances on 0 alone
 abbrev pub stateBy : ℕ → State → State
 stateBy k state = cond (eqb k 0) (furtherBy state 1) state
 
+-- what follows a number: the move is made on 0 and 9, and by no other number does a byte change
 abbrev pub buffersBy : ℕ → Buffers → Buffers → Buffers
 buffersBy k moved kept = cond (eqb k 0 || eqb k 9) moved kept
 
@@ -60,23 +69,18 @@ stepped plan moment asked =
 
 -- ---- a run with an allowance
 
--- a run can be refused only by 7, then 4
+-- the number of a run: it can be refused only by 7, then 4
 unfoldable pub runNumber : Plan → Moment → ℕ
 runNumber plan moment = readyNumber plan moment 0
 
--- the steps that it does: min(allowance, total - next), and none where it is refused
+-- the steps that a run does: min(allowance, total - next), and none where it is refused
 unfoldable pub runCount : Plan → Moment → ℕ → ℕ
 runCount plan moment q = cond (eqb (runNumber plan moment) 0) (min q (total (routeOf plan) - moment .state .next .0)) 0
-
--- the k steps from s on, each once
-unfoldable pub movesFrom : Route → ℕ → ℕ → Buffers → Buffers
-movesFrom route s zero v = v
-movesFrom route s (suc k) v = move route (s + k) (movesFrom route s k v)
 
 -- what a run leaves
 unfoldable pub ran : Plan → Moment → ℕ → Moment
 ran plan moment q =
     record {
       state = furtherBy (moment .state) (runCount plan moment q);
-      buffers = movesFrom (routeOf plan) (moment .state .next .0) (runCount plan moment q) (moment .buffers);
+      buffers = movesFrom (move (routeOf plan)) (moment .state .next .0) (runCount plan moment q) (moment .buffers);
     }

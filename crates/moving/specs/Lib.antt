@@ -1,5 +1,6 @@
 -- The steps of a plan, on lists of bytes.
 pub mod Bytes
+pub mod Laid
 pub mod Number
 pub mod Step
 pub mod Call

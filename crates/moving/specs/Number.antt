@@ -1,7 +1,7 @@
--- Which pass, memoryload, phase and turn is a step number? Assumes nothing.
+-- Which pass, memoryload, phase and tier is a step number? Assumes nothing.
 use Prim.Native.Nat.{ℕ, _/_, _%_}
 use lib.ListN.{getD}
-use Rattle.bank.specs.Geometry.{stripes}
+use Rattle.bank.specs.Geometry.{tiers}
 use Rattle.planning.specs.declared.Phase.{Phase}
 use Rattle.planning.specs.declared.Phase.the-variants.{Writes}
 use Rattle.planning.specs.Pass.{Route, phases, passSteps, loadSteps}
@@ -16,8 +16,8 @@ loadOf route s = s % passSteps route / loadSteps route
 
 -- the phases of a load come in their order; no step is past the last of them
 unfoldable pub phaseOf : Route → ℕ → Phase
-phaseOf route s = getD (phases route) (s % passSteps route % loadSteps route / stripes (route .geometry)) Writes
+phaseOf route s = getD (phases route) (s % passSteps route % loadSteps route / tiers (route .geometry)) Writes
 
 -- which of the reads, or of the writes: t
-unfoldable pub turnOf : Route → ℕ → ℕ
-turnOf route s = s % passSteps route % loadSteps route % stripes (route .geometry)
+unfoldable pub tierOf : Route → ℕ → ℕ
+tierOf route s = s % passSteps route % loadSteps route % tiers (route .geometry)

@@ -1,18 +1,17 @@
 -- What does a step do to the two areas and the memory? Assumes nothing.
-use mathlib.Core.Path.{_≡_}
-use mathlib.Core.Bool.{Bool, true, false, not, _&&_}
+use mathlib.Core.Bool.{Bool, cond, _&&_}
 use mathlib.Core.List.{List}
 use Prim.Native.Nat.{ℕ, zero, suc, _+_, _*_, _%_}
 use lib.Dec.{eqb}
 use lib.ListN.{length}
 use Rattle.bank.specs.declared.Geometry.{Geometry}
-use Rattle.bank.specs.Geometry.{records, memory, loadAt, stripeAt}
+use Rattle.bank.specs.Geometry.{records, memorySize, loadAt, tierAt}
 use Rattle.algebra.specs.Matrix.{source}
 use Rattle.planning.specs.declared.Phase.{Phase}
 use Rattle.planning.specs.declared.Phase.the-variants.{Reads, Writes}
 use Rattle.planning.specs.Pass.{Pass, Route, passAt}
 use Rattle.moving.specs.Bytes.{copied}
-use Rattle.moving.specs.Number.{passOf, loadOf, phaseOf, turnOf}
+use Rattle.moving.specs.Number.{passOf, loadOf, phaseOf, tierOf}
 
 -- the lent bytes
 pub record Buffers : Type 0 where
@@ -23,64 +22,77 @@ pub record Buffers : Type 0 where
 abbrev pub buffersOf : List ℕ → List ℕ → List ℕ → Buffers
 buffersOf area0 area1 memory = record { area0 = area0; area1 = area1; memory = memory }
 
--- each area is N·R bytes, and memory is M·R
-unfoldable pub fits : Geometry → Buffers → Bool
-fits g v = eqb (length (v .area0)) (records g * g .r) && eqb (length (v .area1)) (records g * g .r) && eqb (length (v .memory)) (memory g * g .r)
+-- the lengths of the two areas and of memory are right: N·R bytes each area, M·R bytes memory
+abbrev pub lengthsFit : Geometry → ℕ → ℕ → ℕ → Bool
+lengthsFit g area0 area1 memory = eqb area0 (records g * g .r) && eqb area1 (records g * g .r) && eqb memory (memorySize g * g .r)
 
--- the three lengths, one by one
-pub record Fits (g : Geometry) (v : Buffers) : Type 0 where
-  pub area0-long : length (v .area0) ≡ records g * g .r
-  pub area1-long : length (v .area1) ≡ records g * g .r
-  pub memory-long : length (v .memory) ≡ memory g * g .r
+-- the lent bytes are of the right lengths
+unfoldable pub buffersFit : Geometry → Buffers → Bool
+buffersFit g v = lengthsFit g (length (v .area0)) (length (v .area1)) (length (v .memory))
 
--- pass p reads area p mod 2 and writes the other
-abbrev pub even : ℕ → Bool
-even p = eqb (p % 2) 0
+-- area 0, or area 1
+pub data Area : Type 0 where
+  zeroth : Area
+  first : Area
 
-abbrev pub areaBy : Bool → Buffers → List ℕ
-areaBy true v = v .area0
-areaBy false v = v .area1
+-- the one that an area isn't
+abbrev pub otherArea : Area → Area
+otherArea zeroth = first
+otherArea first = zeroth
 
-abbrev pub areaOf : ℕ → Buffers → List ℕ
-areaOf p v = areaBy (even p) v
+-- pass p reads area p mod 2
+abbrev pub areaRead : ℕ → Area
+areaRead p = cond (eqb (p % 2) 0) zeroth first
 
-abbrev pub withAreaBy : Bool → List ℕ → Buffers → Buffers
-withAreaBy true l v = record { area0 = l; area1 = v .area1; memory = v .memory }
-withAreaBy false l v = record { area0 = v .area0; area1 = l; memory = v .memory }
+-- pass p writes the area that it doesn't read
+abbrev pub areaWritten : ℕ → Area
+areaWritten p = otherArea (areaRead p)
 
+-- the bytes of an area
+abbrev pub bytesOf : Area → Buffers → List ℕ
+bytesOf zeroth v = v .area0
+bytesOf first v = v .area1
+
+-- the buffers with other bytes in an area
+abbrev pub withBytes : Area → List ℕ → Buffers → Buffers
+withBytes zeroth l v = record { area0 = l; area1 = v .area1; memory = v .memory }
+withBytes first l v = record { area0 = v .area0; area1 = l; memory = v .memory }
+
+-- the buffers with other bytes in memory
 abbrev pub withMemory : List ℕ → Buffers → Buffers
 withMemory l v = record { area0 = v .area0; area1 = v .area1; memory = l }
 
--- read t fills place q of memory ..
+-- read t fills place q of memory: its tier is t
 unfoldable pub readTakes : Geometry → ℕ → ℕ → Bool
-readTakes g t q = eqb (stripeAt g q) t
+readTakes g t q = eqb (tierAt g q) t
 
--- .. from this record of the load
+-- a read fills place q of memory from this record of the load
 unfoldable pub readFrom : Geometry → ℕ → ℕ → ℕ
-readFrom g load q = load * memory g + q
+readFrom g load q = load * memorySize g + q
 
--- read t of a load in pass p: the places of memory in stripe t get the load's records of the area read
+-- read t of a load in pass p: the places of memory in tier t get the load's records of the area read
 unfoldable pub readMove : Geometry → ℕ → ℕ → ℕ → Buffers → Buffers
-readMove g p load t v = withMemory (copied (readTakes g t) (readFrom g load) (g .r) (areaOf p v) (v .memory)) v
+readMove g p load t v = withMemory (copied (readTakes g t) (readFrom g load) (g .r) (bytesOf (areaRead p) v) (v .memory)) v
 
--- where record y of a pass's target comes from
+-- where the record comes from that a pass sends to y
 abbrev pub sourceOf : Geometry → Pass → ℕ → ℕ
 sourceOf g pass y = source (g .n) (pass .rows) (pass .complement) y
 
--- write t of a load writes record y: its source lies in the load, and its bits b+d..m-1 equal t ..
+-- write t of a load writes record y: its source lies in the load, and its tier, bits b+d..m-1, equals t
 unfoldable pub writeTakes : Geometry → Pass → ℕ → ℕ → ℕ → Bool
-writeTakes g pass load t y = eqb (loadAt g (sourceOf g pass y)) load && eqb (stripeAt g y) t
+writeTakes g pass load t y = eqb (loadAt g (sourceOf g pass y)) load && eqb (tierAt g y) t
 
--- .. from this place of memory
+-- a write takes record y from this place of memory
 unfoldable pub writeFrom : Geometry → Pass → ℕ → ℕ
-writeFrom g pass y = sourceOf g pass y % memory g
+writeFrom g pass y = sourceOf g pass y % memorySize g
 
--- write t of a load in pass p: those records of the other area come from memory, which stays
+-- write t of a load in pass p: the records that it writes, of the area written, come from memory, which stays
 unfoldable pub writeMove : Geometry → Pass → ℕ → ℕ → ℕ → Buffers → Buffers
 writeMove g pass p load t v =
-    withAreaBy (not (even p)) (copied (writeTakes g pass load t) (writeFrom g pass) (g .r) (v .memory) (areaBy (not (even p)) v)) v
+    withBytes (areaWritten p) (copied (writeTakes g pass load t) (writeFrom g pass) (g .r) (v .memory) (bytesOf (areaWritten p) v)) v
 
 module _ {A : Type 0} where
+  -- one thing for a read, and another for a write
   abbrev pub byPhase : Phase → A → A → A
   byPhase Reads reads writes = reads
   byPhase Writes reads writes = writes
@@ -89,10 +101,10 @@ module _ {A : Type 0} where
 unfoldable pub move : Route → ℕ → Buffers → Buffers
 move route s v =
     byPhase (phaseOf route s)
-    (readMove (route .geometry) (passOf route s) (loadOf route s) (turnOf route s) v)
-    (writeMove (route .geometry) (passAt route (passOf route s)) (passOf route s) (loadOf route s) (turnOf route s) v)
+    (readMove (route .geometry) (passOf route s) (loadOf route s) (tierOf route s) v)
+    (writeMove (route .geometry) (passAt route (passOf route s)) (passOf route s) (loadOf route s) (tierOf route s) v)
 
--- the moves of steps 0 .. k - 1, each once
-unfoldable pub moves : Route → ℕ → Buffers → Buffers
-moves route zero v = v
-moves route (suc k) v = move route k (moves route k v)
+-- the k moves from number s on, each once, where f has the move of each number
+unfoldable pub movesFrom : (ℕ → Buffers → Buffers) → ℕ → ℕ → Buffers → Buffers
+movesFrom f s zero v = v
+movesFrom f s (suc k) v = f (s + k) (movesFrom f s k v)

@@ -1,26 +1,24 @@
 -- What is answered to an address question? Assumes nothing.
 use mathlib.Core.Path.{_≡_, refl, sym, ap, ap₂, subst, _∙_}
-use mathlib.Core.Logic.{⊎-elim}
-use mathlib.Core.Bool.{Bool, true, false}
+use mathlib.Core.Bool.{Bool}
 use mathlib.Core.List.{[], _∷_}
 use Prim.Native.Nat.{ℕ, zero, suc, _%_, _≤_, _<_, _^_}
 use native.Mathlib.Nat.{lt-of-lt-of-le, mod-eq-of-lt, mod-lt}
 use native.Mathlib.Omega.{arith}
-use borrow.Author.Tests.{le-leb, lt-leb}
+use borrow.Author.Tests.{le-leb, leb-false, lt-leb}
 use lib.Dec.{leb}
 use lib.Pow.{pow-mono, pow-pos}
 use Rattle.bank.specs.Limits.{ROWS}
 use Rattle.bank.proofs.Limits.{limits→allowed}
 use Rattle.bank.specs.Geometry.{records}
-use Rattle.bank.specs.Checks.{refuse, orElse, handed}
+use Rattle.bank.specs.Checks.{refuse, orLater, handed}
 use Rattle.algebra.specs.Matrix.{target, source, singular}
-use Rattle.algebra.proofs.Search.{le-or-lt}
 use Rattle.algebra.specs.Vector.{WORD}
 use Rattle.matrix.specs.Solved.{solvedFor}
 use Rattle.matrix.specs.declared.questions.Solved.{Solved}
 use Rattle.order.specs.Order.{matrixOf, formNumber, judgement}
-use Rattle.order.specs.Address.{questionNumber, targetOf, Found, meaningOf, foundFor}
-use Rattle.order.proofs.Judged.{or-else-stops, form-none, judgement-form, judgement-formed}
+use Rattle.order.specs.Address.{questionNumber, sentTo, targetOf, meaningOf, foundFor}
+use Rattle.order.proofs.Judged.{or-later-none, or-later-refuse, or-later-stops, form-none, judgement-form, judgement-formed, refuse-none}
 use Rattle.order.proofs.Accepted.{judgement→accepted, complement-below}
 use Rattle.order.specs.declared.Order.{Order}
 use Rattle.order.specs.declared.address.Target.{Target}
@@ -30,11 +28,16 @@ use Rattle.order.specs.declared.address.Source.the-variants.{From, Refus
 pub in-word : (n x : ℕ) → n ≤ ROWS → x < 2 ^ n → x < 2 ^ WORD
 in-word n x few h = lt-of-lt-of-le h (pow-mono {i = n} {j = WORD} (omega arith))
 
+-- a refusal hands back the other thing
+handed-refused : {A : Type 0} (k : ℕ) (result other : A) → (k ≡ 0 → ⊥) → handed k result other ≡ other
+handed-refused zero result other f = absurd (f refl)
+handed-refused (suc k) result other f = refl
+
 module _ (order : Order) (x : ℕ) where
   -- ---- the number
   pub number-order : (judgement order ≡ 0 → ⊥) → questionNumber order x ≡ judgement order
   unfolding questionNumber
-  number-order f = or-else-stops (judgement order) (refuse (leb (records (order .geometry)) x) 10 0) f
+  number-order f = or-later-stops (judgement order) (refuse (leb (records (order .geometry)) x) 10 0) f
 
   pub number-taken : judgement order ≡ 0 → questionNumber order x ≡ refuse (leb (records (order .geometry)) x) 10 0
   unfolding questionNumber
@@ -49,27 +52,20 @@ module _ (order : Order) (x : ℕ) where
   pub number-form : (formNumber order ≡ 0 → ⊥) → questionNumber order x ≡ formNumber order
   number-form f = number-order (λ z. f (sym (judgement-form order f) ∙ z)) ∙ judgement-form order f
 
-  pub number-formed : formNumber order ≡ 0 → questionNumber order x ≡ refuse (singular (order .geometry .n) (matrixOf order)) 3 (refuse (leb (records (order .geometry)) x) 10 0)
+  number-formed : formNumber order ≡ 0
+      → questionNumber order x ≡ refuse (singular (order .geometry .n) (matrixOf order)) 3 (refuse (leb (records (order .geometry)) x) 10 0)
   unfolding questionNumber
   number-formed e =
-      ap (λ (k : ℕ). orElse k (refuse (leb (records (order .geometry)) x) 10 0)) (judgement-formed order e) ∙ go (singular (order .geometry .n) (matrixOf order))
-    where
-      go : (s : Bool) → orElse (refuse s 3 0) (refuse (leb (records (order .geometry)) x) 10 0) ≡ refuse s 3 (refuse (leb (records (order .geometry)) x) 10 0)
-      go true = refl
-      go false = refl
+      let far = refuse (leb (records (order .geometry)) x) 10 0 in
+      ap (λ (k : ℕ). orLater k far) (judgement-formed order e) ∙ or-later-refuse (singular (order .geometry .n) (matrixOf order)) 2 far
 
   -- nothing is refused exactly where the order is taken and the address is below N
-  pub none-means : questionNumber order x ≡ 0 → (judgement order ≡ 0) × (x < records (order .geometry))
+  none-means : questionNumber order x ≡ 0 → (judgement order ≡ 0) × (x < records (order .geometry))
   unfolding questionNumber
-  none-means e = go (judgement order) refl e
-    where
-      go : (k : ℕ) → judgement order ≡ k → orElse k (refuse (leb (records (order .geometry)) x) 10 0) ≡ 0 → (judgement order ≡ 0) × (x < records (order .geometry))
-      go (suc k) p q = absurd (omega (arith, q))
-      go zero p q = (
-        p,
-        ⊎-elim (λ (h : records (order .geometry) ≤ x). absurd (omega (arith, sym (ap (λ t. refuse t 10 0) (le-leb (records (order .geometry)) x h)) ∙ q))) (λ h. h)
-            (le-or-lt (records (order .geometry)) x),
-      )
+  none-means e =
+      let far = leb (records (order .geometry)) x in
+      let o = or-later-none (judgement order) (refuse far 10 0) e in
+      (o .0, leb-false (records (order .geometry)) x (refuse-none far 9 0 (o .1) .0))
 
   -- what A is applied to, once nothing is refused
   pub settled : questionNumber order x ≡ 0 → (order .geometry .n ≤ ROWS) × (x < 2 ^ order .geometry .n)
@@ -78,28 +74,22 @@ module _ (order : Order) (x : ℕ) where
       (limits→allowed (order .geometry) (judgement→accepted order (m .0) .inside) .n-high, m .1)
 
   -- ---- the answers, by the number
-  pub target-refused : (k : ℕ) → k ≡ questionNumber order x → (k ≡ 0 → ⊥) → _≡_ {A = Target} (record { number = k; address = record { 0 = 0 } }) (targetOf order x)
+  pub target-refused : (k : ℕ) → k ≡ questionNumber order x → (k ≡ 0 → ⊥)
+      → _≡_ {A = Target} (record { number = k; address = record { 0 = 0 } }) (targetOf order x)
   unfolding targetOf
-  target-refused k e f = go (questionNumber order x) k e f
-    where
-      go : (q k : ℕ) → k ≡ q → (k ≡ 0 → ⊥) → _≡_ {A = Target} (record { number = k; address = record { 0 = 0 } }) (record { number = q; address = record { 0 = handed q (target (matrixOf order) (order .complement) x) 0 } })
-      go zero k e f = absurd (f e)
-      go (suc q) k e f = ap (λ (n : ℕ). record { number = n; address = record { 0 = 0 } }) e
+  target-refused k e f = rw (← e, handed-refused k (sentTo order x) 0 f)
 
-  pub target-given : (y : ℕ) → questionNumber order x ≡ 0 → y ≡ target (matrixOf order) (order .complement) x → _≡_ {A = Target} (record { number = 0; address = record { 0 = y } }) (targetOf order x)
+  pub target-given : (y : ℕ) → questionNumber order x ≡ 0 → y ≡ target (matrixOf order) (order .complement) x
+      → _≡_ {A = Target} (record { number = 0; address = record { 0 = y } }) (targetOf order x)
   unfolding targetOf
   target-given y e q = rw e (ap (λ (k : ℕ). record { number = 0; address = record { 0 = k } }) q)
 
   pub source-refused : (k : ℕ) → k ≡ questionNumber order x → (k ≡ 0 → ⊥) → meaningOf (Refused k) ≡ foundFor order x
   unfolding meaningOf foundFor
-  source-refused k e f = go (questionNumber order x) k e f
-    where
-      go : (q k : ℕ) → k ≡ q → (k ≡ 0 → ⊥)
-          → _≡_ {A = Found} (record { number = k; sources = [] }) (record { number = q; sources = handed q (source (order .geometry .n) (matrixOf order) (order .complement) x ∷ []) [] })
-      go zero k e f = absurd (f e)
-      go (suc q) k e f = ap (λ (n : ℕ). record { number = n; sources = [] }) e
+  source-refused k e f = rw (← e, handed-refused k (source (order .geometry .n) (matrixOf order) (order .complement) x ∷ []) [] f)
 
-  pub source-given : (y : ℕ) → questionNumber order x ≡ 0 → y ≡ source (order .geometry .n) (matrixOf order) (order .complement) x → meaningOf (From (record { 0 = y })) ≡ foundFor order x
+  pub source-given : (y : ℕ) → questionNumber order x ≡ 0 → y ≡ source (order .geometry .n) (matrixOf order) (order .complement) x
+      → meaningOf (From (record { 0 = y })) ≡ foundFor order x
   unfolding meaningOf foundFor
   source-given y e q = rw e (ap (λ (k : ℕ). record { number = 0; sources = k ∷ [] }) q)
 

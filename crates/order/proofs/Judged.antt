@@ -3,23 +3,24 @@ use mathlib.Core.Path.{_≡_, refl, sym, ap, _∙_}
 use mathlib.Core.Bool.{Bool, true, false, not, _&&_}
 use Prim.Native.Nat.{ℕ, zero, suc, _≤_, _<_}
 use native.Mathlib.Omega.{arith}
-use borrow.Author.Tests.{le-leb, lt-leb}
+use borrow.Author.Tests.{eq-eqb, le-leb, leb-true, lt-leb, not-false}
 use lib.Dec.{eqb, leb}
 use lib.ListN.{getD}
 use Rattle.bank.specs.Limits.{ROWS}
 use Rattle.bank.specs.Geometry.{inLimits, records}
-use Rattle.bank.specs.Checks.{refuse, orElse}
-use Rattle.algebra.specs.Search.{some}
+use Rattle.bank.specs.Checks.{refuse, orLater}
+use Rattle.algebra.specs.Search.{anyBelow}
 use Rattle.algebra.specs.Matrix.{singular}
+use Rattle.algebra.proofs.Search.{none-intro}
 use Rattle.order.specs.Order.{matrixOf, strayRow, strayComplement, spareRow, badForm, formNumber, judgement}
 use Rattle.order.specs.declared.Order.{Order}
 
 -- ---- the form, as code tests it: size is N, and t what the search for stray rows says
 module _ (order : Order) (size : ℕ) (is : size ≡ records (order .geometry)) (t : Bool)
-    (rows : t ≡ some (λ i. leb size (getD (order .rows) i 0)) (order .geometry .n)) where
+    (rows : t ≡ anyBelow (λ i. leb size (getD (order .rows) i 0)) (order .geometry .n)) where
   stray-is : strayRow order ≡ t
   unfolding strayRow
-  stray-is = ap (λ (k : ℕ). some (λ i. leb k (getD (order .rows) i 0)) (order .geometry .n)) (sym is) ∙ sym rows
+  stray-is = ap (λ (k : ℕ). anyBelow (λ i. leb k (getD (order .rows) i 0)) (order .geometry .n)) (sym is) ∙ sym rows
 
   pub by-row : t ≡ true → badForm order ≡ true
   unfolding badForm
@@ -30,33 +31,26 @@ module _ (order : Order) (size : ℕ) (is : size ≡ records (order .geometry)) 
   by-complement e h = rw (stray-is ∙ e, ← is, le-leb size (order .complement) h)
 
   pub by-place : t ≡ false → order .complement < size → (s : Bool)
-      → s ≡ some (λ i. leb (order .geometry .n) i && not (eqb (getD (order .rows) i 0) 0)) ROWS → badForm order ≡ s
+      → s ≡ anyBelow (λ i. leb (order .geometry .n) i && not (eqb (getD (order .rows) i 0) 0)) ROWS → badForm order ≡ s
   unfolding badForm strayComplement spareRow
   by-place e h s q = rw (stray-is ∙ e, ← is, lt-leb size (order .complement) h) (sym q)
 
--- ---- the judgement
-module _ (order : Order) where
-  pub outside-limits : inLimits (order .geometry) ≡ false → judgement order ≡ 1
-  unfolding judgement
-  outside-limits e = rw e
+-- ---- checks one after the other: a number that refuses is not passed by, and 0 says that none applies
+pub or-later-stops : (k later : ℕ) → (k ≡ 0 → ⊥) → orLater k later ≡ k
+or-later-stops zero later f = absurd (f refl)
+or-later-stops (suc k) later f = refl
 
-  module _ (inside : inLimits (order .geometry) ≡ true) where
-    pub formless : badForm order ≡ true → judgement order ≡ 2
-    unfolding judgement
-    formless e = rw (inside, e)
+pub or-later-refuse : (t : Bool) (k later : ℕ) → orLater (refuse t (suc k) 0) later ≡ refuse t (suc k) later
+or-later-refuse true k later = refl
+or-later-refuse false k later = refl
 
-    pub singular-three : badForm order ≡ false → singular (order .geometry .n) (matrixOf order) ≡ true → judgement order ≡ 3
-    unfolding judgement
-    singular-three f e = rw (inside, f, e)
+pub or-later-none : (k later : ℕ) → orLater k later ≡ 0 → (k ≡ 0) × (later ≡ 0)
+or-later-none zero later e = (refl, e)
+or-later-none (suc k) later e = absurd (omega (arith, e))
 
-    pub regular-none : badForm order ≡ false → singular (order .geometry .n) (matrixOf order) ≡ false → judgement order ≡ 0
-    unfolding judgement
-    regular-none f e = rw (inside, f, e)
-
--- ---- a number that refuses is not passed by
-pub or-else-stops : (k later : ℕ) → (k ≡ 0 → ⊥) → orElse k later ≡ k
-or-else-stops zero later f = absurd (f refl)
-or-else-stops (suc k) later f = refl
+pub refuse-none : (t : Bool) (k later : ℕ) → refuse t (suc k) later ≡ 0 → (t ≡ false) × (later ≡ 0)
+refuse-none true k later e = absurd (omega (arith, e))
+refuse-none false k later e = (refl, e)
 
 -- ---- the form's number, and the judgement after it
 module _ (order : Order) where
@@ -70,24 +64,47 @@ module _ (order : Order) where
 
   pub form-none : formNumber order ≡ 0 → (inLimits (order .geometry) ≡ true) × (badForm order ≡ false)
   unfolding formNumber
-  form-none e = go (inLimits (order .geometry)) (badForm order) refl refl e
-    where
-      go : (l f : Bool) → inLimits (order .geometry) ≡ l → badForm order ≡ f → refuse (not l) 1 (refuse f 2 0) ≡ 0 → (inLimits (order .geometry) ≡ true) × (badForm order ≡ false)
-      go false f p q e = absurd (omega (arith, e))
-      go true true p q e = absurd (omega (arith, e))
-      go true false p q e = (p, q)
-
-  form-then-singular : judgement order ≡ orElse (formNumber order) (refuse (singular (order .geometry .n) (matrixOf order)) 3 0)
-  unfolding judgement formNumber
-  form-then-singular = go (inLimits (order .geometry)) (badForm order)
-    where
-      go : (l f : Bool) → refuse (not l) 1 (refuse f 2 (refuse (singular (order .geometry .n) (matrixOf order)) 3 0)) ≡ orElse (refuse (not l) 1 (refuse f 2 0)) (refuse (singular (order .geometry .n) (matrixOf order)) 3 0)
-      go false f = refl
-      go true true = refl
-      go true false = refl
+  form-none e =
+      let o = refuse-none (not (inLimits (order .geometry))) 0 (refuse (badForm order) 2 0) e in
+      (not-false (inLimits (order .geometry)) (o .0), refuse-none (badForm order) 1 0 (o .1) .0)
 
   pub judgement-form : (formNumber order ≡ 0 → ⊥) → judgement order ≡ formNumber order
-  judgement-form f = form-then-singular ∙ or-else-stops (formNumber order) (refuse (singular (order .geometry .n) (matrixOf order)) 3 0) f
+  unfolding judgement
+  judgement-form f = or-later-stops (formNumber order) (refuse (singular (order .geometry .n) (matrixOf order)) 3 0) f
 
   pub judgement-formed : formNumber order ≡ 0 → judgement order ≡ refuse (singular (order .geometry .n) (matrixOf order)) 3 0
-  judgement-formed e = form-then-singular ∙ ap (λ (k : ℕ). orElse k (refuse (singular (order .geometry .n) (matrixOf order)) 3 0)) e
+  unfolding judgement
+  judgement-formed e = ap (λ (k : ℕ). orLater k (refuse (singular (order .geometry .n) (matrixOf order)) 3 0)) e
+
+  pub outside-limits : inLimits (order .geometry) ≡ false → judgement order ≡ 1
+  unfolding judgement
+  outside-limits e = rw (form-outside e)
+
+  module _ (inside : inLimits (order .geometry) ≡ true) where
+    pub formless : badForm order ≡ true → judgement order ≡ 2
+    unfolding judgement
+    formless e = rw (form-inside inside, e)
+
+    in-form : badForm order ≡ false → judgement order ≡ refuse (singular (order .geometry .n) (matrixOf order)) 3 0
+    in-form f = judgement-formed (form-inside inside ∙ ap (λ (t : Bool). refuse t 2 0) f)
+
+    pub singular-three : badForm order ≡ false → singular (order .geometry .n) (matrixOf order) ≡ true → judgement order ≡ 3
+    singular-three f e = in-form f ∙ ap (λ (t : Bool). refuse t 3 0) e
+
+    pub regular-none : badForm order ≡ false → singular (order .geometry .n) (matrixOf order) ≡ false → judgement order ≡ 0
+    regular-none f e = in-form f ∙ ap (λ (t : Bool). refuse t 3 0) e
+
+-- ---- rows and a complement below N, and zeros beyond the rows, are good form
+module _ (order : Order) (below : (i : ℕ) → i < order .geometry .n → getD (order .rows) i 0 < records (order .geometry))
+    (complement : order .complement < records (order .geometry)) (spare : (i : ℕ) → order .geometry .n ≤ i → getD (order .rows) i 0 ≡ 0) where
+  at-zero : (i : ℕ) (t : Bool) → leb (order .geometry .n) i ≡ t → t && not (eqb (getD (order .rows) i 0) 0) ≡ false
+  at-zero i true e = rw (eq-eqb (getD (order .rows) i 0) 0 (spare i (leb-true (order .geometry .n) i e)))
+  at-zero i false e = refl
+
+  pub good-form : badForm order ≡ false
+  good-form =
+      let size = records (order .geometry) in
+      by-place order size refl false
+      (sym (none-intro (λ i. leb size (getD (order .rows) i 0)) (order .geometry .n) (λ k h. lt-leb size (getD (order .rows) k 0) (below k h))))
+      refl complement false
+      (sym (none-intro (λ i. leb (order .geometry .n) i && not (eqb (getD (order .rows) i 0) 0)) ROWS (λ k h. at-zero k (leb (order .geometry .n) k) refl)))

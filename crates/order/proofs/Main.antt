@@ -4,15 +4,14 @@ use mathlib.Core.Bool.{Bool, true, false}
 use mathlib.Core.List.{List, [], _∷_}
 use Prim.Native.Nat.{ℕ, _≤_, _<_}
 use native.Mathlib.Omega.{arith}
-use lib.Bits.{bitXor}
 use lib.ListN.{length}
 use Rattle.bank.specs.Limits.{ROWS}
 use Rattle.bank.specs.Geometry.{inLimits, records}
-use Rattle.algebra.specs.Matrix.{apply, target, source, singular}
+use Rattle.algebra.specs.Matrix.{source, singular}
 use Rattle.algebra.proofs.Singular.{Clash, clash→singular, singular→clash, regular-inj}
 use Rattle.algebra.proofs.Inverse.{source-lt, target-source-is}
 use Rattle.order.specs.Order.{matrixOf, badForm, judgement}
-use Rattle.order.specs.Address.{targetOf, meaningOf, foundFor}
+use Rattle.order.specs.Address.{targetOf, meaningOf, foundFor, sentTo}
 use Rattle.order.specs.declared.Order.{Order}
 use Rattle.order.specs.declared.address.Source.{Source}
 use Rattle.order.specs.declared.address.Source.the-variants.{From, Refused}
@@ -44,17 +43,16 @@ module _ (order : Order) (room : length (order .rows) ≡ ROWS) (taken : judgeme
   rows-n = omega (arith, matrix-length order (ok .inside) room)
 
   -- it sends x to Ax xor c
-  pub sends : (x : ℕ) → x < records (order .geometry) → targetOf order x ≡ record { number = 0; address = record { 0 = bitXor (apply (matrixOf order) x) (order .complement) } }
-  unfolding target
-  sends x h = sym (target-given order x (bitXor (apply (matrixOf order) x) (order .complement)) (number-none order x taken h) refl)
+  pub sends : (x : ℕ) → x < records (order .geometry) → targetOf order x ≡ record { number = 0; address = record { 0 = sentTo order x } }
+  sends x h = sym (target-given order x (sentTo order x) (number-none order x taken h) refl)
 
   -- asked backwards, it gives the only x that goes there
   pub record Comes (y : ℕ) : Type 0 where
     pub from : ℕ
     pub answer : foundFor order y ≡ record { number = 0; sources = from ∷ [] }
     pub below : from < records (order .geometry)
-    pub goes : target (matrixOf order) (order .complement) from ≡ y
-    pub only : (x : ℕ) → x < records (order .geometry) → target (matrixOf order) (order .complement) x ≡ y → x ≡ from
+    pub goes : sentTo order from ≡ y
+    pub only : (x : ℕ) → x < records (order .geometry) → sentTo order x ≡ y → x ≡ from
 
   pub comes : (y : ℕ) → y < records (order .geometry) → Comes y
   unfolding foundFor

@@ -3,7 +3,7 @@ use mathlib.Core.List.{List, [], _∷_}
 use Prim.Native.Nat.{ℕ}
 use lib.Dec.{leb}
 use Rattle.bank.specs.Geometry.{records}
-use Rattle.bank.specs.Checks.{refuse, orElse, handed}
+use Rattle.bank.specs.Checks.{refuse, orLater, handed}
 use Rattle.algebra.specs.Matrix.{target, source}
 use Rattle.order.specs.Order.{matrixOf, judgement}
 use Rattle.order.specs.declared.Order.{Order}
@@ -13,14 +13,17 @@ use Rattle.order.specs.declared.address.Source.the-variants.{From, Refus
 
 -- the number of an address question: the order's own, then 10 for an address of N or more
 unfoldable pub questionNumber : Order → ℕ → ℕ
-questionNumber order x = orElse (judgement order) (refuse (leb (records (order .geometry)) x) 10 0)
+questionNumber order x = orLater (judgement order) (refuse (leb (records (order .geometry)) x) 10 0)
 
--- where the order sends x: Ax xor c with 0, and address 0 with a refusal
+-- where the order sends x: Ax xor c
+abbrev pub sentTo : Order → ℕ → ℕ
+sentTo order x = target (matrixOf order) (order .complement) x
+
+-- the answer for x: where the order sends it with 0, and address 0 with a refusal
 unfoldable pub targetOf : Order → ℕ → Target
-targetOf order x =
-    record { number = questionNumber order x; address = record { 0 = handed (questionNumber order x) (target (matrixOf order) (order .complement) x) 0 } }
+targetOf order x = record { number = questionNumber order x; address = record { 0 = handed (questionNumber order x) (sentTo order x) 0 } }
 
--- an answer to a question backwards: its number, and the source, where there is one
+-- what an answer to a question backwards says: its number, and the source, where there is one
 pub record Found : Type 0 where
   pub number : ℕ
   pub sources : List ℕ

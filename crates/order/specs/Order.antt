@@ -6,8 +6,8 @@ use lib.Dec.{eqb, leb}
 use lib.ListN.{getD, take}
 use Rattle.bank.specs.Limits.{ROWS}
 use Rattle.bank.specs.Geometry.{inLimits, records}
-use Rattle.bank.specs.Checks.{refuse}
-use Rattle.algebra.specs.Search.{some}
+use Rattle.bank.specs.Checks.{refuse, orLater}
+use Rattle.algebra.specs.Search.{anyBelow}
 use Rattle.algebra.specs.Matrix.{singular}
 use Rattle.order.specs.declared.Order.{Order}
 
@@ -17,15 +17,15 @@ matrixOf order = take (order .geometry .n) (order .rows)
 
 -- a row of A has a bit at n or above
 unfoldable pub strayRow : Order → Bool
-strayRow order = some (λ i. leb (records (order .geometry)) (getD (order .rows) i 0)) (order .geometry .n)
+strayRow order = anyBelow (λ i. leb (records (order .geometry)) (getD (order .rows) i 0)) (order .geometry .n)
 
--- c has
+-- the complement has a bit at n or above
 unfoldable pub strayComplement : Order → Bool
 strayComplement order = leb (records (order .geometry)) (order .complement)
 
 -- a row place beyond n isn't zero
 unfoldable pub spareRow : Order → Bool
-spareRow order = some (λ i. leb (order .geometry .n) i && not (eqb (getD (order .rows) i 0) 0)) ROWS
+spareRow order = anyBelow (λ i. leb (order .geometry .n) i && not (eqb (getD (order .rows) i 0) 0)) ROWS
 
 -- the order isn't in good form
 unfoldable pub badForm : Order → Bool
@@ -35,7 +35,6 @@ badForm order = strayRow order || strayComplement order || spareRow order
 unfoldable pub formNumber : Order → ℕ
 formNumber order = refuse (not (inLimits (order .geometry))) 1 (refuse (badForm order) 2 0)
 
--- the judgement of an order: 1, its geometry is outside the limits; 2, it isn't in good form; 3, A is singular; 0, it is taken
+-- the judgement of an order: the number for its form; then 3, A is singular; 0, it is taken
 unfoldable pub judgement : Order → ℕ
-judgement order =
-    refuse (not (inLimits (order .geometry))) 1 (refuse (badForm order) 2 (refuse (singular (order .geometry .n) (matrixOf order)) 3 0))
+judgement order = orLater (formNumber order) (refuse (singular (order .geometry .n) (matrixOf order)) 3 0)

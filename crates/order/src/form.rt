@@ -4,12 +4,12 @@ ghost use mathlib.Core.Bool.{not, _&&_};
 ghost use Prim.Native.Nat.{_≤_};
 ghost use lib.Dec.{eqb, leb};
 ghost use lib.ListN.{getD, length};
-ghost use Rattle.algebra.specs.Search.{some};
+ghost use Rattle.algebra.specs.Search.{anyBelow};
 
 // Whether one of the first n numbers is size or more.
 pub fn stray(rows: &[u32], n: usize, size: u64) -> bool
     requires { ⌜ n ≤ length (now rows) ⌝ }
-    ensures { λ r. ⌜ r ≡ some (λ i. leb size (getD (now (rows .entry)) i 0)) n ⌝ }
+    ensures { λ r. ⌜ r ≡ anyBelow (λ i. leb size (getD (now (rows .entry)) i 0)) n ⌝ }
 {
     let mut i = 0;
     while i < n {
@@ -24,7 +24,7 @@ pub fn stray(rows: &[u32], n: usize, size: u64) -> bool
 // Whether a place from n on isn't zero.
 pub fn spare(rows: &[u32], n: usize) -> bool
     requires { ⌜ n ≤ length (now rows) ⌝ }
-    ensures { λ r. ⌜ r ≡ some (λ i. leb n i && not (eqb (getD (now (rows .entry)) i 0) 0)) (length (now (rows .entry))) ⌝ }
+    ensures { λ r. ⌜ r ≡ anyBelow (λ i. leb n i && not (eqb (getD (now (rows .entry)) i 0) 0)) (length (now (rows .entry))) ⌝ }
 {
     let mut i = n;
     while i < rows.len() {

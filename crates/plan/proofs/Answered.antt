@@ -10,17 +10,20 @@ use Rattle.plan.specs.Answer.{plannedFor}
 use Rattle.plan.specs.declared.make.Planned.{Planned}
 
 module _ (order : Order) where
+  abbrev made : Plan
+  made = planFor (order .geometry) (matrixOf order) (order .complement)
+
   -- refused: the number, and the empty plan
   pub planned-refused : (judgement order ≡ 0 → ⊥) → plannedFor order ≡ record { number = judgement order; plan = emptyPlan }
   unfolding plannedFor
   planned-refused h = go (judgement order) h
     where
-      go : (k : ℕ) → (k ≡ 0 → ⊥) → _≡_ {A = Planned} (record { number = k; plan = handed k (planFor (order .geometry) (matrixOf order) (order .complement)) emptyPlan }) (record { number = k; plan = emptyPlan })
+      go : (k : ℕ) → (k ≡ 0 → ⊥) → _≡_ {A = Planned} (record { number = k; plan = handed k made emptyPlan }) (record { number = k; plan = emptyPlan })
       go zero h = absurd (h refl)
       go (suc k) h = refl
 
   -- taken: 0, and the plan
-  pub planned-taken : judgement order ≡ 0 → plannedFor order ≡ record { number = 0; plan = planFor (order .geometry) (matrixOf order) (order .complement) }
+  pub planned-taken : judgement order ≡ 0 → plannedFor order ≡ record { number = 0; plan = made }
   unfolding plannedFor
   planned-taken e = rw e
 
@@ -29,5 +32,5 @@ module _ (order : Order) where
     pub answer-refused : (number ≡ 0 → ⊥) → plan ≡ emptyPlan → record { number = number; plan = plan } ≡ plannedFor order
     answer-refused h e = ap₂ (λ (k : ℕ) (p : Plan). record { number = k; plan = p }) is e ∙ sym (planned-refused (λ z. h (is ∙ z)))
 
-    pub answer-taken : number ≡ 0 → plan ≡ planFor (order .geometry) (matrixOf order) (order .complement) → record { number = number; plan = plan } ≡ plannedFor order
+    pub answer-taken : number ≡ 0 → plan ≡ made → record { number = number; plan = plan } ≡ plannedFor order
     answer-taken h e = ap₂ (λ (k : ℕ) (p : Plan). record { number = k; plan = p }) h e ∙ sym (planned-taken (sym is ∙ h))

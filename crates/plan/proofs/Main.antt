@@ -1,5 +1,5 @@
 -- What is proved of a planning call? The order is the one asked about; an array of rows has room for ROWS of them. Assumes nothing.
-use mathlib.Core.Path.{_∙_, _≡_, ap, refl, subst, sym}
+use mathlib.Core.Path.{_≡_, refl, subst, sym}
 use mathlib.Core.Bool.{true}
 use Prim.Native.Nat.{_+_, _-_, _<_, ℕ}
 use lib.ListN.{length}
@@ -11,7 +11,7 @@ use Rattle.order.specs.declared.Order.{Order}
 use Rattle.order.proofs.Accepted.{complement-below, judgement→accepted, matrix-length}
 use Rattle.planning.specs.Columns.{phi}
 use Rattle.planning.specs.Making.{dividedUp}
-use Rattle.planning.specs.Pass.{Route, performed}
+use Rattle.planning.specs.Pass.{performed}
 use Rattle.planning.specs.Running.{sound}
 use Rattle.planning.specs.Stored.{planFor, planOf, routeOf}
 use Rattle.planning.specs.declared.Plan.{Plan}
@@ -31,7 +31,8 @@ pub record Makes (order : Order) (plan : Plan) : Type 0 where
   -- there are rank φ divided by m - b, rounded up, and one more
   pub passes :
       plan .count
-      ≡ dividedUp (rank (phi (order .geometry .m) (columns (order .geometry .n) (matrixOf order))) (order .geometry .m)) (order .geometry .m - order .geometry .b) + 1
+      ≡ dividedUp (rank (phi (order .geometry .m) (columns (order .geometry .n) (matrixOf order))) (order .geometry .m))
+      (order .geometry .m - order .geometry .b) + 1
 
 -- the answer is 0 and such a plan
 module _ (order : Order) (room : length (order .rows) ≡ ROWS) (taken : judgement order ≡ 0) where
@@ -49,6 +50,6 @@ module _ (order : Order) (room : length (order .rows) ≡ ROWS) (taken : judgeme
           record {
             on-its-bank = unfold planFor planOf in refl;
             sound-plan = made-sound g A c (k .inside) long (k .regular) below;
-            performs = λ x h. ap (λ (r : Route). performed (r .passes) x) (made-route g A c (k .inside) long (k .regular) below) ∙ made-performs g A c (k .inside) long (k .regular) x h;
+            performs = λ x h. rw (made-route g A c (k .inside) long (k .regular) below) (made-performs g A c (k .inside) long (k .regular) x h);
             passes = unfold planFor planOf in made-length g A c (k .inside) long (k .regular);
           }

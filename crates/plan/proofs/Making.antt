@@ -7,46 +7,46 @@ use native.Mathlib.Nat.{sub-zero}
 use native.Mathlib.Omega.{arith}
 use lib.ListN.{drop, length, length-append, length-map, replicate, take}
 use lib.Seq.{ext-getD, length-take-le}
-use Rattle.bank.proofs.Limits.{limits→allowed}
-use Rattle.bank.specs.Geometry.{Allowed, inLimits}
+use Rattle.bank.proofs.Limits.{limits→allowed, Allowed}
+use Rattle.bank.specs.Geometry.{inLimits}
 use Rattle.bank.specs.Limits.{PASSES, ROWS}
 use Rattle.bank.specs.declared.Geometry.{Geometry}
-use Rattle.algebra.specs.Matrix.{columns, identity, product, singular}
+use Rattle.algebra.specs.Matrix.{after, columns, identity, singular}
 use Rattle.algebra.specs.Vector.{comb}
 use Rattle.algebra.proofs.Columns.{columns-length, identity-at, identity-length}
-use Rattle.algebra.proofs.Linear.{comb-one}
+use Rattle.algebra.proofs.Linear.{comb-one, after-length, after-at}
 use Rattle.algebra.proofs.Lists.{All}
 use Rattle.algebra.proofs.Questions.{columns-whole}
 use Rattle.algebra.proofs.Rank.{rank-le}
-use Rattle.planning.specs.Columns.{after, phi}
-use Rattle.planning.specs.Making.{RoundReady, busy, erases, firstAfter, operations, passMatrices, passesFor, rounds, swaps}
+use Rattle.planning.specs.Columns.{phi}
+use Rattle.planning.specs.Making.{busy, firstAfter, operations, passMatrices, passesFor, roundLeft, roundPass, rounds}
 use Rattle.planning.specs.Pass.{Pass, complemented}
 use Rattle.planning.specs.Facts.{nonzero}
 use Rattle.planning.specs.Stored.{planFor, planOf}
 use Rattle.planning.specs.declared.Plan.{Plan}
-use Rattle.planning.proofs.Bridges.{column-after}
 use Rattle.planning.proofs.Made.{complemented-length, made-few}
 use Rattle.planning.proofs.Round.{next-nonzero, next-ready}
 use Rattle.planning.proofs.Rounds.{Good, busy-some, complemented-more, round-good, rounds-go, rounds-good, rounds-length, rounds-stop}
 use Rattle.planning.proofs.Run.{first-length, moved-nonzero, moved-ready}
-use Rattle.planning.proofs.Step2.{after-length, operations-length, undone-operations}
-use Rattle.planner.proofs.Products.{front-after, take-front}
+use Rattle.planning.proofs.Step2.{operations-length, operations-inverse}
+use Rattle.planner.proofs.Products.{take-front}
 use Rattle.planner.proofs.Steps.{held-take}
 use Rattle.plan.specs.Store.{withPass}
 use Rattle.plan.proofs.Storing.{stored-more, stored-none}
+use Rattle.planning.specs.Inner.{RoundReady}
 
 -- the rows of A Q, array by array
-pub rows-code : (room n : ℕ) (a q both r : List ℕ) → n ≤ room → length both ≡ room → both ≡ product (take n q) (take n a) ++ replicate (room - n) 0
+pub rows-code : (room n : ℕ) (a q both r : List ℕ) → n ≤ room → length both ≡ room → both ≡ after (take n a) (take n q) ++ replicate (room - n) 0
     → r ≡ columns n (take (n - 0) (drop 0 both)) ++ replicate (room - n) 0 → r ≡ columns n (after (take n a) (take n q)) ++ replicate (room - n) 0
 rows-code room n a q both r h l e f =
     columns-whole room n both r f
-    ∙ ap (λ (x : List ℕ). columns n x ++ replicate (room - n) 0) (held-take room n both (product (take n q) (take n a)) h l e ∙ front-after n a (take n a) q (take n q) refl refl)
+    ∙ ap (λ (x : List ℕ). columns n x ++ replicate (room - n) 0) (held-take room n both (after (take n a) (take n q)) h l e)
 
 -- A times the identity is A
-pub after-identity : (n : ℕ) (a : List ℕ) → length a ≡ n → after a (identity n) ≡ a
+after-identity : (n : ℕ) (a : List ℕ) → length a ≡ n → after a (identity n) ≡ a
 after-identity n a e =
     ext-getD 0 (after a (identity n)) a (long ∙ sym e)
-    (λ j h. column-after a (identity n) j ∙ ap (comb a) (identity-at n j (subst (λ (k : ℕ). j < k) long h)) ∙ comb-one a j)
+    (λ j h. after-at a (identity n) j ∙ ap (comb a) (identity-at n j (subst (λ (k : ℕ). j < k) long h)) ∙ comb-one a j)
   where
     long : length (after a (identity n)) ≡ n
     long = after-length a (identity n) ∙ identity-length n
@@ -64,7 +64,7 @@ ahead k n b m cols q c = complemented (map (columns n) (firstAfter (rounds k n b
 -- p passes of all are stored, and the others are those of cols and Q
 pub record Making (g : Geometry) (n b m c : ℕ) (all : List Pass) (plan : Plan) (cols q : List ℕ) (p : ℕ) : Type 0 where
   pub below : b < m
-  pub within : m < n
+  pub memory-below : m < n
   pub wide : n ≤ ROWS
   pub few : length all ≤ PASSES
   pub done : List Pass
@@ -79,10 +79,10 @@ module _ {g : Geometry} {n b m c : ℕ} {all : List Pass} {plan : Plan} {cols q 
   low = omega (arith, k .below)
 
   high : m ≤ n
-  high = omega (arith, k .within)
+  high = omega (arith, k .memory-below)
 
   rounds-some : 0 < length (rounds (m - p) n b m cols)
-  rounds-some = omega (arith, rounds-length n b m low high (k .below) (m - p) cols (k .ready) (k .enough))
+  rounds-some = omega (arith, rounds-length n b m (k .below) high (m - p) cols (k .ready) (k .enough))
 
   -- there is room for one more
   pub make-room : p < PASSES
@@ -107,15 +107,15 @@ module _ {g : Geometry} {n b m c : ℕ} {all : List Pass} {plan : Plan} {cols q 
       ∙ sym (stored-more g (k .done) f e n (omega (arith, make-room, k .counted)) (k .wide) l)
 
   module _ (more : busy m cols ≡ true) where
-    -- a turn is left
+    -- an iteration is left
     pub make-goes : p < m
     make-goes = omega (arith, busy-some m cols more, k .enough)
 
     abbrev made : List ℕ
-    made = after (erases n b m (after cols (swaps n b m cols))) (swaps n b m cols)
+    made = roundPass n b m cols
 
     abbrev next : List ℕ
-    next = after (after cols (swaps n b m cols)) (erases n b m (after cols (swaps n b m cols)))
+    next = roundLeft n b m cols
 
     made-length : length made ≡ n
     made-length = round-good n b m low high cols (k .ready) .long
@@ -126,40 +126,40 @@ module _ {g : Geometry} {n b m c : ℕ} {all : List Pass} {plan : Plan} {cols q 
     fewer : nonzero m next ≤ m - (p + 1)
     fewer = omega (arith, next-nonzero n b m low high cols (k .ready), busy-some m cols more, k .enough)
 
-    comes-turn : record { rows = columns n (after made q); complement = 0 } ∷ ahead (m - (p + 1)) n b m next (identity n) c ≡ ahead (m - p) n b m cols q c
+    comes-once : record { rows = columns n (after made q); complement = 0 } ∷ ahead (m - (p + 1)) n b m next (identity n) c ≡ ahead (m - p) n b m cols q c
     unfolding firstAfter
-    comes-turn =
+    comes-once =
         ap (λ (l : List (List ℕ)). record { rows = columns n (after made q); complement = 0 } ∷ complemented (map (columns n) l) c)
-        (first-identity n b m (rounds (m - (p + 1)) n b m next) (rounds-good n b m low high (k .below) (m - (p + 1)) next still fewer))
+        (first-identity n b m (rounds (m - (p + 1)) n b m next) (rounds-good n b m (k .below) high (m - (p + 1)) next still fewer))
         ∙ sym (complemented-more (columns n (after made q)) (map (columns n) (rounds (m - (p + 1)) n b m next)) c
-        (omega (arith, length-map (rounds (m - (p + 1)) n b m next) (columns n), rounds-length n b m low high (k .below) (m - (p + 1)) next still fewer)))
+        (omega (arith, length-map (rounds (m - (p + 1)) n b m next) (columns n), rounds-length n b m (k .below) high (m - (p + 1)) next still fewer)))
         ∙ ap (λ (l : List (List ℕ)). complemented (map (columns n) (firstAfter l q)) c) (sym (rounds-go (m - (p + 1)) n b m cols more))
         ∙ ap (λ (i : ℕ). ahead i n b m cols q c) (omega (arith, make-goes))
 
     -- what the round stores, and leaves
-    pub make-turn : (pass left unit rows : List ℕ) (plan' : Plan)
-        → pass ≡ after (erases n b m (after cols (swaps n b m cols))) (swaps n b m cols) ++ replicate (ROWS - n) 0
-        → left ≡ after (after cols (swaps n b m cols)) (erases n b m (after cols (swaps n b m cols))) ++ replicate (ROWS - n) 0
+    pub make-once : (pass left unit rows : List ℕ) (plan' : Plan)
+        → pass ≡ made ++ replicate (ROWS - n) 0
+        → left ≡ next ++ replicate (ROWS - n) 0
         → unit ≡ identity n ++ replicate (ROWS - n) 0
         → rows ≡ columns n (after (take n pass) q) ++ replicate (ROWS - n) 0
         → plan' ≡ withPass plan p rows 0
         → Making g n b m c all plan' (take n left) (take n unit) (p + 1)
-    make-turn pass left unit rows plan' e1 e2 e3 e4 e5 =
+    make-once pass left unit rows plan' e1 e2 e3 e4 e5 =
         let x : Pass = record { rows = columns n (after made q); complement = 0 } in
         let pass-is : take n pass ≡ made = take-front n pass made (replicate (ROWS - n) 0) made-length e1 in
         let left-is : take n left ≡ next = take-front n left next (replicate (ROWS - n) 0) (still .long) e2 in
         let unit-is : take n unit ≡ identity n = take-front n unit (identity n) (replicate (ROWS - n) 0) (identity-length n) e3 in
         record {
           below = k .below;
-          within = k .within;
+          memory-below = k .memory-below;
           wide = k .wide;
           few = k .few;
           done = k .done ++ (x ∷ []);
           counted = length-append (k .done) (x ∷ []) ∙ ap (λ (i : ℕ). i + 1) (k .counted);
-          stored = put (columns n (after made q)) rows 0 plan' (columns-length n (after made q)) (e4 ∙ ap (λ (l : List ℕ). columns n (after l q) ++ replicate (ROWS - n) 0) pass-is) e5;
+          stored = put (columns n (after made q)) rows 0 plan' (columns-length n (after made q)) (e4 ∙ rw pass-is refl) e5;
           comes =
               ap₂ (λ (l u : List ℕ). (k .done ++ (x ∷ [])) ++ ahead (m - (p + 1)) n b m l u c) left-is unit-is
-              ∙ append-assoc (k .done) (x ∷ []) (ahead (m - (p + 1)) n b m next (identity n) c) ∙ ap (λ (l : List Pass). k .done ++ l) comes-turn ∙ k .comes;
+              ∙ append-assoc (k .done) (x ∷ []) (ahead (m - (p + 1)) n b m next (identity n) c) ∙ ap (λ (l : List Pass). k .done ++ l) comes-once ∙ k .comes;
           ready = subst (RoundReady n m) (sym left-is) still;
           enough = subst (λ (l : List ℕ). nonzero m l ≤ m - (p + 1)) (sym left-is) fewer;
         }
@@ -174,8 +174,8 @@ module _ {g : Geometry} {n b m c : ℕ} {all : List Pass} {plan : Plan} {cols q 
         (ap (λ (l : List (List ℕ)). k .done ++ complemented (map (columns n) (firstAfter l q)) c) (sym (rounds-stop (m - p) n b m cols none)) ∙ k .comes)
 
 -- ---- the order A, c, in the arrays that hold A P and P
-module _ (g : Geometry) (array : List ℕ) (c : ℕ) (inside : inLimits g ≡ true) (long : length array ≡ ROWS) (regular : singular (g .n) (take (g .n) array) ≡ false)
-    (cols q : List ℕ)
+module _ (g : Geometry) (array : List ℕ) (c : ℕ) (inside : inLimits g ≡ true) (long : length array ≡ ROWS)
+    (regular : singular (g .n) (take (g .n) array) ≡ false) (cols q : List ℕ)
     (cols-is : cols ≡ after (columns (g .n) (take (g .n) array)) (operations (g .n) (g .m) (columns (g .n) (take (g .n) array))) ++ replicate (ROWS - g .n) 0)
     (q-is : q ≡ operations (g .n) (g .m) (columns (g .n) (take (g .n) array)) ++ replicate (ROWS - g .n) 0) where
   k : Allowed g
@@ -212,14 +212,14 @@ module _ (g : Geometry) (array : List ℕ) (c : ℕ) (inside : inLimits g ≡ tr
   all-ahead : passesFor g rows c ≡ all
   unfolding passesFor passMatrices
   all-ahead =
-      ap (λ (l : List ℕ). ahead (g .m) (g .n) (g .b) (g .m) moved l c) (undone-operations (g .n) (g .m) hm (columns (g .n) rows))
+      ap (λ (l : List ℕ). ahead (g .m) (g .n) (g .b) (g .m) moved l c) (operations-inverse (g .n) (g .m) hm (columns (g .n) rows))
       ∙ sym (ap₂ (λ (l p : List ℕ). ahead (g .m) (g .n) (g .b) (g .m) l p c) cols-front q-front)
 
   pub make-start : (plan : Plan) → plan ≡ record { geometry = g; count = 0; rows = replicate (PASSES * ROWS) 0; complements = replicate PASSES 0 }
       → Making g (g .n) (g .b) (g .m) c all plan (take (g .n) cols) (take (g .n) q) 0
   make-start plan e = record {
     below = k .block-below;
-    within = k .memory-below;
+    memory-below = k .memory-below;
     wide = k .n-high;
     few = subst (λ (l : List Pass). length l ≤ PASSES) all-ahead (made-few g rows c inside rows-length regular);
     done = [];

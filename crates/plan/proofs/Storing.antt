@@ -11,7 +11,7 @@ use lib.Seq.{ext-getD, getD-append-seam, getD-set-same, getD-set-other, length-p
 use Rattle.bank.specs.Limits.{ROWS, PASSES}
 use Rattle.bank.specs.declared.Geometry.{Geometry}
 use Rattle.algebra.proofs.Listed.{listed-length}
-use Rattle.algebra.proofs.Lists.{padded-at, paste-after, paste-before, paste-within}
+use Rattle.algebra.proofs.Lists.{padded-at, paste-after, paste-before, paste-in}
 use Rattle.algebra.proofs.Search.{le-or-lt}
 use Rattle.planning.specs.Pass.{Pass, passIn}
 use Rattle.planning.specs.Stored.{planOf, storedComplements, storedRows}
@@ -48,6 +48,9 @@ module _ (ps : List Pass) (f : List ℕ) (c : ℕ) where
     abbrev before : List ℕ
     before = storedRows room width ps
 
+    abbrev pasted : List ℕ
+    pasted = paste before (length ps * width) padded width
+
     padded-long : width ≤ length padded
     padded-long = omega (arith, length-append f (replicate (width - length f) 0), length-replicate {A = ℕ} (width - length f) 0)
 
@@ -55,41 +58,43 @@ module _ (ps : List Pass) (f : List ℕ) (c : ℕ) where
     inside = omega (arith, stored-length room width ps, suc-mul (length ps) width, mul-le-mul-right width fits)
 
     same-place : (p i : ℕ) → i < width → p * width + i < room * width → passIn more p ≡ passIn ps p
-        → (getD (paste before (length ps * width) padded width) (p * width + i) 0 ≡ getD before (p * width + i) 0)
-        → getD (storedRows room width more) (p * width + i) 0 ≡ getD (paste before (length ps * width) padded width) (p * width + i) 0
+        → (getD pasted (p * width + i) 0 ≡ getD before (p * width + i) 0)
+        → getD (storedRows room width more) (p * width + i) 0 ≡ getD pasted (p * width + i) 0
     same-place p i hi h e g =
         stored-place room width more (p * width + i) h
         ∙ ap (λ (x : Pass). getD (x .rows) ((p * width + i) % width) 0) (ap (passIn more) (digits-div p hi) ∙ e ∙ ap (passIn ps) (sym (digits-div p hi)))
         ∙ sym (g ∙ stored-place room width ps (p * width + i) h)
 
     at-place : (p i : ℕ) → i < width → p * width + i < room * width
-        → getD (storedRows room width more) (p * width + i) 0 ≡ getD (paste before (length ps * width) padded width) (p * width + i) 0
+        → getD (storedRows room width more) (p * width + i) 0 ≡ getD pasted (p * width + i) 0
     at-place p i hi h =
         ⊎-elim
         (λ (l : length ps ≤ p).
-        ⊎-elim (λ (e : length ps ≡ p). subst (λ (k : ℕ). getD (storedRows room width more) (k * width + i) 0 ≡ getD (paste before (length ps * width) padded width) (k * width + i) 0) e last)
+        ⊎-elim (λ (e : length ps ≡ p). subst (λ (k : ℕ). getD (storedRows room width more) (k * width + i) 0 ≡ getD pasted (k * width + i) 0) e last)
         (λ (l : length ps < p).
         same-place p i hi h (more-past p l)
-        (paste-after before padded (length ps * width) width inside padded-long (p * width + i) (omega (arith, suc-mul (length ps) width, mul-le-mul-right width l))))
+        (paste-after before padded (length ps * width) width inside padded-long (p * width + i)
+        (omega (arith, suc-mul (length ps) width, mul-le-mul-right width l))))
         (eq-or-lt-of-le l))
-        (λ (l : p < length ps). same-place p i hi h (more-old p l) (paste-before before padded (length ps * width) width inside padded-long (p * width + i) (digits-lt l hi)))
+        (λ (l : p < length ps).
+        same-place p i hi h (more-old p l) (paste-before before padded (length ps * width) width inside padded-long (p * width + i) (digits-lt l hi)))
         (le-or-lt (length ps) p)
       where
-        last : getD (storedRows room width more) (length ps * width + i) 0 ≡ getD (paste before (length ps * width) padded width) (length ps * width + i) 0
+        last : getD (storedRows room width more) (length ps * width + i) 0 ≡ getD pasted (length ps * width + i) 0
         last =
             stored-row room width more (length ps) i fits hi
             ∙ ap (λ (x : Pass). getD (x .rows) i 0) more-last
-            ∙ sym (paste-within before padded (length ps * width) width inside padded-long i hi ∙ padded-at f (width - length f) i)
+            ∙ sym (paste-in before padded (length ps * width) width inside padded-long i hi ∙ padded-at f (width - length f) i)
 
-    pub stored-rows-more : storedRows room width more ≡ paste before (length ps * width) padded width
+    stored-rows-more : storedRows room width more ≡ pasted
     stored-rows-more =
-        ext-getD 0 (storedRows room width more) (paste before (length ps * width) padded width)
+        ext-getD 0 (storedRows room width more) pasted
         (stored-length room width more ∙ sym (length-paste before (length ps * width) padded width inside padded-long ∙ stored-length room width ps))
         (λ q h.
-        subst (λ (k : ℕ). getD (storedRows room width more) k 0 ≡ getD (paste before (length ps * width) padded width) k 0) (div-add-mod' q width)
+        subst (λ (k : ℕ). getD (storedRows room width more) k 0 ≡ getD pasted k 0) (div-add-mod' q width)
         (at-place (q / width) (q % width) (mod-lt q some) (omega (arith, div-add-mod' q width, stored-length room width more))))
 
-    pub stored-complements-more : storedComplements room more ≡ set (storedComplements room ps) (length ps) c
+    stored-complements-more : storedComplements room more ≡ set (storedComplements room ps) (length ps) c
     stored-complements-more =
         ext-getD 0 (storedComplements room more) (set (storedComplements room ps) (length ps) c)
         (complements-length room more ∙ sym (length-set (storedComplements room ps) (length ps) c ∙ complements-length room ps))
@@ -134,14 +139,16 @@ pub stored-more : (g : Geometry) (ps : List Pass) (f : List ℕ) (c n : ℕ) →
     ≡ withPass (planOf (record { geometry = g; passes = ps })) (length ps) (f ++ replicate (ROWS - n) 0) c
 unfolding planOf withPass
 stored-more g ps f c n fits narrow long =
-    λ i. record { geometry = g; count = length-more ps f c i; rows = rows i; complements = stored-complements-more ps f c PASSES ROWS (omega arith) fits (omega arith) i }
+    let complements = stored-complements-more ps f c PASSES ROWS (omega arith) fits (omega arith) in
+    λ i. record { geometry = g; count = length-more ps f c i; rows = rows i; complements = complements i }
   where
-    rows : storedRows PASSES ROWS (ps ++ (record { rows = f; complement = c } ∷ [])) ≡ paste (storedRows PASSES ROWS ps) (length ps * ROWS) (f ++ replicate (ROWS - n) 0) ROWS
+    rows : storedRows PASSES ROWS (more ps f c) ≡ paste (storedRows PASSES ROWS ps) (length ps * ROWS) (f ++ replicate (ROWS - n) 0) ROWS
     rows =
         stored-rows-more ps f c PASSES ROWS (omega arith) fits (omega arith)
         ∙ ap (λ (k : ℕ). paste (storedRows PASSES ROWS ps) (length ps * ROWS) (f ++ replicate (ROWS - k) 0) ROWS) long
 
 -- and with none
-pub stored-none : (g : Geometry) → planOf (record { geometry = g; passes = [] }) ≡ record { geometry = g; count = 0; rows = replicate (PASSES * ROWS) 0; complements = replicate PASSES 0 }
+pub stored-none : (g : Geometry) → planOf (record { geometry = g; passes = [] })
+    ≡ record { geometry = g; count = 0; rows = replicate (PASSES * ROWS) 0; complements = replicate PASSES 0 }
 unfolding planOf
 stored-none g = λ i. record { geometry = g; count = 0; rows = rows-none PASSES ROWS i; complements = complements-none PASSES i }

@@ -1,4 +1,3 @@
--- What the calls on plans answer.
+-- What a planning call answers.
 pub mod Store
 pub mod Answer
-pub mod Total

@@ -1,4 +1,5 @@
 -- What is a plan with one pass more? Assumes nothing.
+-- What proofs and inner contracts go by; the rules need none of it.
 use mathlib.Core.List.{List}
 use Prim.Native.Nat.{ℕ, _+_, _*_}
 use lib.ListN.{set}

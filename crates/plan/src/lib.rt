@@ -1,4 +1,3 @@
-// Plans by value: made for an order, judged whoever made them, and what they total.
+// Plans by value: stored, and made for an order.
 pub mod store; // store.rt: the empty plan, a pass put in and taken out
 pub mod make; // make.rt: the plan for an order
-pub mod running; // running.rt: can a plan run, and what does it total?

@@ -16,7 +16,8 @@ module _ (room k l : ℕ) (first second : List ℕ) (hk : k ≤ length first) (h
 
   pub followed-start : first ≡ take k first ++ replicate (room - k) 0 → first ≡ filled room (take k first ++ take l second) (k + 0)
   followed-start e =
-      e ∙ ap (λ (p : List ℕ). p ++ replicate (room - k) 0) (sym (take-at (take k first) (take l second) k front)) ∙ ap (filled room (take k first ++ take l second)) (sym (add-zero k))
+      e ∙ ap (λ (p : List ℕ). p ++ replicate (room - k) 0) (sym (take-at (take k first) (take l second) k front))
+      ∙ ap (filled room (take k first ++ take l second)) (sym (add-zero k))
 
   pub followed-at : (i : ℕ) → i < l → getD (take k first ++ take l second) (k + i) 0 ≡ getD second i 0
   followed-at i h =

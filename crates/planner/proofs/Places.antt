@@ -6,9 +6,9 @@ use Prim.Native.Nat.{_/_, _<_, _^_, _≤_, ℕ}
 use lib.Dec.{eqb}
 use lib.ListN.{getD, take}
 use lib.Seq.{take-take}
-use Rattle.algebra.specs.Search.{some}
+use Rattle.algebra.specs.Search.{anyBelow}
 use Rattle.algebra.proofs.Linear.{comb-one}
-use Rattle.algebra.proofs.Search.{none-intro, some-intro}
+use Rattle.algebra.proofs.Search.{none-intro, any-intro}
 use Rattle.planning.specs.Columns.{phi, zeroColumn}
 use Rattle.planning.specs.Making.{busy}
 use Rattle.planning.proofs.Parts.{phi-at}
@@ -27,12 +27,12 @@ zero-column m cols j v h e = ap (λ (k : ℕ). eqb k 0) (e ∙ phi-column m cols
 
 -- ---- whether there is a nonzero one
 module _ (m n : ℕ) (cols : List ℕ) (h : m ≤ n) where
-  same : busy m (take n cols) ≡ some (λ j. not (zeroColumn (phi m cols) j)) m
+  same : busy m (take n cols) ≡ anyBelow (λ j. not (zeroColumn (phi m cols) j)) m
   unfolding busy
-  same = ap (λ (l : List ℕ). some (λ j. not (zeroColumn l j)) m) (phi-take m n cols h)
+  same = ap (λ (l : List ℕ). anyBelow (λ j. not (zeroColumn l j)) m) (phi-take m n cols h)
 
   pub busy-yes : (j : ℕ) → j < m → not (zeroColumn (phi m cols) j) ≡ true → true ≡ busy m (take n cols)
-  busy-yes j l e = sym (same ∙ some-intro (λ j. not (zeroColumn (phi m cols) j)) m j l e)
+  busy-yes j l e = sym (same ∙ any-intro (λ j. not (zeroColumn (phi m cols) j)) m j l e)
 
   pub busy-no : ((j : ℕ) → j < m → not (zeroColumn (phi m cols) j) ≡ false) → false ≡ busy m (take n cols)
   busy-no f = sym (same ∙ none-intro (λ j. not (zeroColumn (phi m cols) j)) m f)

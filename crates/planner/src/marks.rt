@@ -11,7 +11,7 @@ use matrix::echelon::no_entries;
 use matrix::echelon::reduce;
 use matrix::vector::bit_of;
 use matrix::vector::power;
-use matrix::vector::times;
+use matrix::vector::unless_zero;
 
 // The marked ones of the first k columns.
 pub(crate) fn marks(cols: [u32; ROWS], k: usize) -> u32
@@ -24,7 +24,7 @@ pub(crate) fn marks(cols: [u32; ROWS], k: usize) -> u32
     while j < k {
         let column = cols[j];
         let r = reduce(e, column, 0);
-        set = set ^ times(r.left, power(j as u32));
+        set = set ^ unless_zero(r.left, power(j as u32));
         e = grow(e, j as u32, column);
         j += 1;
     }

@@ -4,10 +4,10 @@ ghost use mathlib.Core.List.{_++_};
 ghost use Prim.Native.Nat.{_<_, _≤_, _+_, _-_, _/_, _^_};
 ghost use lib.ListN.{take, replicate};
 ghost use Rattle.bank.specs.Limits.{ROWS};
-ghost use Rattle.algebra.specs.Matrix.{columns};
+ghost use Rattle.algebra.specs.Matrix.{columns, after};
 ghost use Rattle.algebra.specs.Search.{which};
-ghost use Rattle.planning.specs.Columns.{adding, after};
-ghost use Rattle.planning.specs.Making.{mate, step1, step2, operations};
+ghost use Rattle.planning.specs.Columns.{adding};
+ghost use Rattle.planning.specs.Making.{partner, step1, step2, operations};
 ghost use Rattle.planner.specs.Marks.{placesOf, bare};
 use crate::columns::lower;
 use crate::marks::bare;
@@ -19,7 +19,7 @@ use matrix::echelon::reduce;
 use matrix::rows::columns;
 use matrix::rows::product;
 use matrix::vector::power;
-use matrix::vector::times;
+use matrix::vector::unless_zero;
 
 // The columns of A P and of P.
 pub struct Operated {
@@ -45,13 +45,13 @@ fn followed(first: [u32; ROWS], k: usize, second: [u32; ROWS], l: usize) -> [u32
 // In the set, columns m..n stand first, and then columns 0..m: those of them that are in it are the chosen ones.
 fn paired(set: u32, n: usize, m: usize) -> [u32; ROWS]
     requires { ⌜ (m < n) × (n ≤ ROWS) × (set < 2 ^ n) × (0 < m) ⌝ }
-    ensures { λ r. ⌜ r ≡ adding (mate (which (bare set m n) n 0) (placesOf m (set / 2 ^ (n - m)))) n ++ replicate (ROWS - n) 0 ⌝ }
+    ensures { λ r. ⌜ r ≡ adding (partner (which (bare set m n) n 0) (placesOf m (set / 2 ^ (n - m)))) n ++ replicate (ROWS - n) 0 ⌝ }
 {
     let mut out = [0u32; ROWS];
     let mut left = set >> ((n - m) as u32);
     let mut j = 0;
     while j < n {
-        let w = times(bare(set, m, n, j), lowest_of(left));
+        let w = unless_zero(bare(set, m, n, j), lowest_of(left));
         out[j] = power(j as u32) ^ w;
         left = left ^ w;
         j += 1;
@@ -82,7 +82,7 @@ fn step2(cols: &[u32; ROWS], n: usize, m: usize) -> [u32; ROWS]
     let mut j = 0;
     while j < n {
         let r = reduce(e, phi[j], 0);
-        out[j] = power(j as u32) ^ times(bare(set, 0, m, j), r.tag);
+        out[j] = power(j as u32) ^ unless_zero(bare(set, 0, m, j), r.tag);
         j += 1;
     }
     out
@@ -91,7 +91,8 @@ fn step2(cols: &[u32; ROWS], n: usize, m: usize) -> [u32; ROWS]
 // A P and P, for the matrix A of n rows.
 pub fn operate(rows: &[u32; ROWS], n: usize, m: usize) -> Operated
     requires { ⌜ (0 < m) × (m < n) × (n ≤ ROWS) ⌝ }
-    ensures { λ r. ⌜ (r .cols ≡ after (columns n (take n (now (rows .entry)))) (operations n m (columns n (take n (now (rows .entry))))) ++ replicate (ROWS - n) 0) × (r .p ≡ operations n m (columns n (take n (now (rows .entry)))) ++ replicate (ROWS - n) 0) ⌝ }
+    ensures { λ r. ⌜ (r .cols ≡ after (columns n (take n (now (rows .entry)))) (operations n m (columns n (take n (now (rows .entry)))))
+        ++ replicate (ROWS - n) 0) × (r .p ≡ operations n m (columns n (take n (now (rows .entry)))) ++ replicate (ROWS - n) 0) ⌝ }
 {
     let a = columns(rows, 0, n, n);
     let s1 = step1(&a, n, m);

@@ -5,8 +5,9 @@ ghost use Prim.Native.Nat.{_<_, _≤_, _-_};
 ghost use lib.ListN.{take, replicate};
 ghost use Rattle.bank.specs.Limits.{ROWS};
 ghost use Rattle.algebra.specs.Search.{leastFrom};
-ghost use Rattle.planning.specs.Columns.{after, phi, zeroColumn};
-ghost use Rattle.planning.specs.Making.{RoundReady, busy, erases, swaps};
+ghost use Rattle.planning.specs.Columns.{phi, zeroColumn};
+ghost use Rattle.planning.specs.Making.{busy, erases, roundLeft, roundPass, swaps};
+ghost use Rattle.planning.specs.Inner.{RoundReady};
 use crate::columns::lower;
 use bank::ROWS;
 use matrix::echelon::eliminate;
@@ -102,7 +103,8 @@ fn erases(cols: &[u32; ROWS], n: usize, b: usize, m: usize) -> [u32; ROWS]
 // One round of a matrix of n columns.
 pub fn round(cols: &[u32; ROWS], n: usize, b: usize, m: usize) -> Rounded
     requires { ⌜ (b < m) × (m < n) × (n ≤ ROWS) × RoundReady n m (take n (now cols)) ⌝ }
-    ensures { λ r. ⌜ (r .pass ≡ after (erases n b m (after (take n (now (cols .entry))) (swaps n b m (take n (now (cols .entry)))))) (swaps n b m (take n (now (cols .entry)))) ++ replicate (ROWS - n) 0) × (r .cols ≡ after (after (take n (now (cols .entry))) (swaps n b m (take n (now (cols .entry))))) (erases n b m (after (take n (now (cols .entry))) (swaps n b m (take n (now (cols .entry)))))) ++ replicate (ROWS - n) 0) ⌝ }
+    ensures { λ r. ⌜ (r .pass ≡ roundPass n b m (take n (now (cols .entry))) ++ replicate (ROWS - n) 0)
+        × (r .cols ≡ roundLeft n b m (take n (now (cols .entry))) ++ replicate (ROWS - n) 0) ⌝ }
 {
     let s = swaps(cols, n, b, m);
     let swapped = product(&s, cols, n);

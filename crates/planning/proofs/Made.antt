@@ -6,23 +6,23 @@ use Prim.Native.Nat.{_+_, _-_, _<_, _^_, _≤_, suc, zero, ℕ}
 use native.Mathlib.Omega.{arith}
 use lib.Pow.{pow-pos}
 use lib.ListN.{getD, length}
-use Rattle.bank.proofs.Limits.{limits→allowed}
-use Rattle.bank.specs.Geometry.{Allowed, inLimits}
+use Rattle.bank.proofs.Limits.{limits→allowed, Allowed}
+use Rattle.bank.specs.Geometry.{inLimits}
 use Rattle.bank.specs.Limits.{PASSES}
 use Rattle.bank.specs.declared.Geometry.{Geometry}
 use Rattle.algebra.specs.Matrix.{columns, rank, singular, spills, target}
 use Rattle.algebra.proofs.Lists.{all-at, at-all}
 use Rattle.planning.proofs.Bound.{passes-bound}
-use Rattle.planning.proofs.Run.{plan-half, plan-length, plan-moves, plan-runs}
+use Rattle.planning.proofs.Run.{MatrixRuns, plan-half, plan-length, plan-moves, plan-runs}
 use Rattle.planning.proofs.Running.{runs-back, runs→sound, sound-allowed, sound-dry}
-use Rattle.planning.proofs.Runs.{MatrixRuns}
 use Rattle.planning.proofs.Stored.{route-length}
 use Rattle.planning.specs.Columns.{phi}
 use Rattle.planning.specs.Making.{dividedUp, passMatrices, passesFor}
 use Rattle.planning.specs.Pass.{complemented, passIn, performed}
-use Rattle.planning.specs.Running.{Runs, sound}
+use Rattle.planning.specs.Running.{sound}
 use Rattle.planning.specs.Stored.{planFor, routeOf}
 use Rattle.planning.specs.declared.Plan.{Plan}
+use Rattle.planning.specs.Inner.{Runs}
 
 -- ---- complements
 pub complemented-length : (fs : List (List ℕ)) (c : ℕ) → length (complemented fs c) ≡ length fs
@@ -31,7 +31,7 @@ complemented-length [] c = refl
 complemented-length (f ∷ []) c = refl
 complemented-length (f ∷ g ∷ fs) c = ap suc (complemented-length (g ∷ fs) c)
 
-pub complemented-rows : (fs : List (List ℕ)) (c p : ℕ) → passIn (complemented fs c) p .rows ≡ getD fs p []
+complemented-rows : (fs : List (List ℕ)) (c p : ℕ) → passIn (complemented fs c) p .rows ≡ getD fs p []
 unfolding complemented
 complemented-rows [] c p = refl
 complemented-rows (f ∷ []) c zero = refl
@@ -39,7 +39,7 @@ complemented-rows (f ∷ []) c (suc p) = refl
 complemented-rows (f ∷ g ∷ fs) c zero = refl
 complemented-rows (f ∷ g ∷ fs) c (suc p) = complemented-rows (g ∷ fs) c p
 
-pub complemented-lt : (fs : List (List ℕ)) (c n p : ℕ) → c < 2 ^ n → passIn (complemented fs c) p .complement < 2 ^ n
+complemented-lt : (fs : List (List ℕ)) (c n p : ℕ) → c < 2 ^ n → passIn (complemented fs c) p .complement < 2 ^ n
 unfolding complemented
 complemented-lt [] c n p h = pow-pos n
 complemented-lt (f ∷ []) c n zero h = h
@@ -77,19 +77,20 @@ module _ (g : Geometry) (rows : List ℕ) (c : ℕ) (hg : inLimits g ≡ true) (
 
   module _ (hc : c < 2 ^ g .n) where
     -- the route can run
-    pub made-runs : Runs (record { geometry = g; passes = passesFor g rows c })
+    made-runs : Runs (record { geometry = g; passes = passesFor g rows c })
     unfolding passesFor
     made-runs = record {
-      allowed = a;
+      inside = hg;
       some-pass = made-some;
       few-passes = made-few;
       each-runs = λ p h.
+          let runs = plan-runs (g .n) (g .b) (g .m) (a .block-below) hm rows hr hs in
           let k : MatrixRuns (g .n) (g .b) (g .m) (passIn (complemented matrices c) p .rows)
           = subst (MatrixRuns (g .n) (g .b) (g .m)) (sym (complemented-rows matrices c p))
-          (all-at [] (MatrixRuns (g .n) (g .b) (g .m)) matrices (plan-runs (g .n) (g .b) (g .m) (a .block-below) hm rows hr hs) p (subst (λ (l : ℕ). p < l) (complemented-length matrices c) h)) in record {
+          (all-at [] (MatrixRuns (g .n) (g .b) (g .m)) matrices runs p (rw complemented-length at h)) in record {
             rows-all = k .all;
-            rows-within = λ i hi. k .small i;
-            complement-within = complemented-lt matrices c (g .n) p hc;
+            rows-below = λ i hi. k .small i;
+            complement-below = complemented-lt matrices c (g .n) p hc;
             regular = k .regular;
             dry = k .dry;
           };
@@ -109,10 +110,12 @@ module _ (g : Geometry) (rows : List ℕ) (c : ℕ) (hg : inLimits g ≡ true) (
 module _ (plan : Plan) (e : sound plan ≡ true) (rows : List ℕ) (c : ℕ)
     (does : (x : ℕ) → x < 2 ^ plan .geometry .n → performed (routeOf plan .passes) x ≡ target rows c x) where
   -- has at least rank φ divided by m - b passes, rounded up
-  pub runs-bound : dividedUp (rank (phi (plan .geometry .m) (columns (plan .geometry .n) rows)) (plan .geometry .m)) (plan .geometry .m - plan .geometry .b) ≤ plan .count
+  pub runs-bound : dividedUp (rank (phi (plan .geometry .m) (columns (plan .geometry .n) rows)) (plan .geometry .m))
+      (plan .geometry .m - plan .geometry .b) ≤ plan .count
   runs-bound =
-      subst (λ (k : ℕ). dividedUp (rank (phi (plan .geometry .m) (columns (plan .geometry .n) rows)) (plan .geometry .m)) (plan .geometry .m - plan .geometry .b) ≤ k) (route-length plan)
-      (passes-bound (plan .geometry .n) (plan .geometry .b) (plan .geometry .m) (sound-allowed plan e .block-below) (omega (arith, sound-allowed plan e .memory-below)) rows c (routeOf plan .passes)
-      (at-all (record { rows = []; complement = 0 }) (λ p. spills (plan .geometry .b) (plan .geometry .m) (p .rows) ≡ false) (routeOf plan .passes)
-      (λ p h. sound-dry plan e p (subst (λ (k : ℕ). p < k) (route-length plan) h)))
-      does)
+      let g = plan .geometry in
+      let k = sound-allowed plan e in
+      let dry = at-all (record { rows = []; complement = 0 }) (λ p. spills (g .b) (g .m) (p .rows) ≡ false) (routeOf plan .passes)
+      (λ p h. sound-dry plan e p (rw route-length at h)) in
+      rw (← route-length plan)
+      (passes-bound (g .n) (g .b) (g .m) (k .block-below) (omega (arith, k .memory-below)) rows c (routeOf plan .passes) dry does)

@@ -19,16 +19,17 @@ use Rattle.algebra.specs.Vector.{comb}
 use Rattle.planning.proofs.Made.{made-route}
 use Rattle.planning.proofs.Marks.{only-elim, only-intro}
 use Rattle.planning.proofs.Parts.{delta-comb, phi-at}
-use Rattle.planning.proofs.Round.{e-small, eraser-one, eraser-right, next-nonzero, next-ready, swapped-ready}
+use Rattle.planning.proofs.Round.{e-small, eraser-one, eraser-right, next-nonzero, next-ready, after-swaps-ready}
 use Rattle.planning.proofs.Rounds.{rounds-end}
 use Rattle.planning.proofs.Run.{moved-nonzero, moved-ready, plan-none}
 use Rattle.planning.proofs.Running.{runs-back, runs→sound, sound→runs}
 use Rattle.planning.proofs.Step1.{delta-regular, pairing-total}
-use Rattle.planning.proofs.Step2.{moved-zero, summands-one, summands-right, undone-operations}
+use Rattle.planning.proofs.Step2.{moved-zero, summands-one, summands-right, operations-inverse}
 use Rattle.planning.specs.Columns.{phi, zeroColumn}
-use Rattle.planning.specs.Facts.{Erasing, Facts, MarkedSum, OnlyOne, PlanFacts, RoundFacts, StepFacts, Taken, afterStep2, nonzero, swapped}
-use Rattle.planning.specs.Making.{RoundReady, eraser, passesFor, summands}
+use Rattle.planning.specs.Facts.{Erasing, Facts, MarkedSum, OnlyOne, PlanFacts, RoundFacts, StepFacts, Taken, afterStep2, nonzero}
+use Rattle.planning.specs.Making.{eraser, passesFor, summands, afterSwaps}
 use Rattle.planning.specs.Pass.{complemented}
+use Rattle.planning.specs.Inner.{RoundReady}
 
 -- ---- 1 and 2
 sum-right : (m : ℕ) (cols : List ℕ) (j : ℕ) → j < m → marked (phi m cols) j ≡ false → OnlyOne (2 ^ m) (MarkedSum m cols j) (summands m cols j)
@@ -46,7 +47,7 @@ steps-right n b m hb hm rows hr hs =
       all-paired = pairing-total n m hm a small regular;
       δ-nonsingular = delta-regular n m hm a small regular;
       one-sum = sum-right m _;
-      P-own-inverse = undone-operations n m hm a;
+      P-own-inverse = operations-inverse n m hm a;
       φ-reduced = moved-zero n m hm a;
       φ-rank = as-rank;
       AP-ready = ready;
@@ -72,29 +73,32 @@ steps-right n b m hb hm rows hr hs =
 module _ (n b m : ℕ) (hm : m ≤ n) (cols : List ℕ) (k : RoundReady n m cols) (j : ℕ) (hb : b ≤ j) (h : j < m) (e : zeroColumn (phi m cols) j ≡ false) where
   -- what a set leaves of column j, in the lower part
   left : (z : ℕ) → bitXor (getD cols j 0) (comb cols z) / 2 ^ m ≡ bitXor (getD (phi m cols) j 0) (comb cols z / 2 ^ m)
-  left z = xor-shr (getD cols j 0) (comb cols z) m ∙ ap (λ (x : ℕ). bitXor x (comb cols z / 2 ^ m)) (sym (phi-at m cols j h ∙ ap (λ (x : ℕ). x / 2 ^ m) (comb-one cols j)))
+  left z =
+      xor-shr (getD cols j 0) (comb cols z) m
+      ∙ ap (λ (x : ℕ). bitXor x (comb cols z / 2 ^ m)) (sym (phi-at m cols j h ∙ ap (λ (x : ℕ). x / 2 ^ m) (comb-one cols j)))
 
   set-right : OnlyOne (2 ^ n) (Erasing m cols j) (eraser n b m cols j)
   set-right =
       let r = eraser-right n b m hm cols (k .small) (k .trailing) j hb h e in
+      let v = getD (phi m cols) j 0 in
       record {
         below = e-small n b m hm cols j;
         holds = (
           ap (λ (x : ℕ). x % 2 ^ m) (r .2) ∙ mul-mod-left (r .0) (2 ^ m),
-          left (eraser n b m cols j) ∙ ap (bitXor (getD (phi m cols) j 0)) (ap (λ (x : ℕ). comb cols x / 2 ^ m) (r .2) ∙ sym (delta-comb m cols (r .0)) ∙ r .3) ∙ xor-self (getD (phi m cols) j 0),
+          left (eraser n b m cols j) ∙ ap (bitXor v) (ap (λ (x : ℕ). comb cols x / 2 ^ m) (r .2) ∙ sym (delta-comb m cols (r .0)) ∙ r .3) ∙ xor-self v,
         );
         only = λ z l q.
             let whole : z ≡ z / 2 ^ m * 2 ^ m = sym (parts-xor m z) ∙ ap (λ (x : ℕ). bitXor x (z / 2 ^ m * 2 ^ m)) (q .0) in
             whole ∙ sym (eraser-one n b m hm cols (k .small) (k .trailing) j (z / 2 ^ m) hb h e (shr-below n m z hm l)
-            (delta-comb m cols (z / 2 ^ m) ∙ ap (λ (x : ℕ). comb cols x / 2 ^ m) (sym whole) ∙ sym (xor-eq (getD (phi m cols) j 0) (comb cols z / 2 ^ m) (sym (left z) ∙ q .1))));
+            (delta-comb m cols (z / 2 ^ m) ∙ ap (λ (x : ℕ). comb cols x / 2 ^ m) (sym whole) ∙ sym (xor-eq v (comb cols z / 2 ^ m) (sym (left z) ∙ q .1))));
       }
 
 round-right : (n b m : ℕ) → b ≤ m → m ≤ n → (cols : List ℕ) → RoundReady n m cols → RoundFacts n b m cols
 round-right n b m hb hm cols k =
-    let ready = swapped-ready n b m hb hm cols k in
+    let ready = after-swaps-ready n b m hb hm cols k in
     record {
       S-keeps = ready;
-      one-set = set-right n b m hm (swapped n b m cols) ready;
+      one-set = set-right n b m hm (afterSwaps n b m cols) ready;
       E-keeps = next-ready n b m hb hm cols k;
       round-clears = next-nonzero n b m hb hm cols k;
     }
@@ -107,8 +111,8 @@ plan-right g rows c k =
     record {
       steps = steps-right (g .n) (g .b) (g .m) (a .block-below) hm rows (k .rows-all) (k .regular);
       no-rounds = λ e. unfold passesFor complemented in
-          ap (λ (l : List (List ℕ)). complemented l c) (plan-none (g .n) (g .b) (g .m) (a .block-below) hm rows (k .rows-all) (k .rows-within) (k .regular) e);
-      holds = made-route g rows c (k .inside) (k .rows-all) (k .regular) (k .complement-within);
+          ap (λ (l : List (List ℕ)). complemented l c) (plan-none (g .n) (g .b) (g .m) (a .block-below) hm rows (k .rows-all) (k .regular) (k .rows-below) e);
+      holds = made-route g rows c (k .inside) (k .rows-all) (k .regular) (k .complement-below);
     }
 
 pub facts-right : Facts

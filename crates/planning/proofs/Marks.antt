@@ -1,6 +1,6 @@
 -- Which sums of marked columns are there, and how many ways? Assumes nothing.
 use mathlib.Core.Path.{_∙_, _≡_, ap, ap₂, refl, subst, sym}
-use mathlib.Core.Bool.{Bool, _&&_, false, not, true, true≢false}
+use mathlib.Core.Bool.{Bool, _&&_, and-false, false, not, true, true≢false}
 use mathlib.Core.Logic.{⊎-elim}
 use mathlib.Core.List.{List}
 use Prim.Native.Nat.{_<_, _^_, _≤_, suc, zero, ℕ}
@@ -11,13 +11,13 @@ use lib.Pow.{pow-lt, pow-mono, pow-pos}
 use lib.Dec.{eqb}
 use lib.ListN.{getD}
 use lib.Bits.{bitXor, xor-comm, xor-lt, xor-self}
-use borrow.Author.Tests.{eqb-false, ne-eqb, not-true}
+use borrow.Author.Tests.{eqb-false, not-true}
 use Rattle.algebra.proofs.Digits.{bit-above, bit-lt, bit-xor, top-bit, top-digit, under-bit, xor-assoc, xor-eq, xor4}
 use Rattle.algebra.proofs.Kernel.{comb-top, marked-elim, unmarked-elim}
 use Rattle.algebra.proofs.Linear.{comb-xor, comb-zero}
-use Rattle.algebra.proofs.Search.{below-suc, le-or-lt, none-elim, none-intro}
+use Rattle.algebra.proofs.Search.{below-suc, by-test, le-or-lt, none-elim, none-intro}
 use Rattle.algebra.specs.Matrix.{marked}
-use Rattle.algebra.specs.Search.{some}
+use Rattle.algebra.specs.Search.{anyBelow}
 use Rattle.algebra.specs.Vector.{bit, comb}
 use Rattle.planning.specs.Columns.{onlyMarked}
 
@@ -28,7 +28,7 @@ Only p k s = (i : ℕ) → i < k → p i ≡ false → bit s i ≡ 0
 pub only-xor : (p : ℕ → Bool) (k x y : ℕ) → Only p k x → Only p k y → Only p k (bitXor x y)
 only-xor p k x y hx hy i l e = bit-xor x y i ∙ ap₂ bitXor (hx i l e) (hy i l e)
 
-pub only-fewer : (p : ℕ → Bool) (j k x : ℕ) → j ≤ k → Only p k x → Only p j x
+only-fewer : (p : ℕ → Bool) (j k x : ℕ) → j ≤ k → Only p k x → Only p j x
 only-fewer p j k x h f i l e = f i (le-trans l h) e
 
 pub only-more : (p : ℕ → Bool) (j k x : ℕ) → x < 2 ^ j → Only p j x → Only p k x
@@ -41,18 +41,14 @@ module _ (vs : List ℕ) (p : ℕ → Bool) (R : ℕ → Type 0) (r0 : R 0) (rx 
   indep zero z hj h o r = lt-one h
   indep (suc j) z hj h o r =
       ⊎-elim (λ (l : z < 2 ^ j). indep j z (omega arith) l (only-fewer p j (suc j) z (le-suc j) o) r)
-      (λ (t : (s : ℕ) × (s < 2 ^ j) × (z ≡ bitXor (2 ^ j) s)). absurd (go t (p j) refl))
+      (λ (t : (s : ℕ) × (s < 2 ^ j) × (z ≡ bitXor (2 ^ j) s)).
+      absurd (by-test (p j)
+      (λ e. on j (t .0) hj e (t .1) (subst R (ap (comb vs) (t .2) ∙ comb-top vs j (t .0) ∙ xor-comm (getD vs j 0) (comb vs (t .0))) r))
+      (λ e. let q : _≡_ {A = ℕ} 0 1 = sym (o j (le-refl (suc j)) e) ∙ ap (λ (x : ℕ). bit x j) (t .2) ∙ top-bit j (t .0) (t .1) in omega arith)))
       (top-digit j z h)
-    where
-      go : (s : ℕ) × (s < 2 ^ j) × (z ≡ bitXor (2 ^ j) s) → (b : Bool) → p j ≡ b → ⊥
-      go t true e =
-          on j (t .0) hj e (t .1)
-          (subst R (ap (comb vs) (t .2) ∙ comb-top vs j (t .0) ∙ xor-comm (getD vs j 0) (comb vs (t .0))) r)
-      go t false e =
-          let q : _≡_ {A = ℕ} 0 1 = sym (o j (le-refl (suc j)) e) ∙ ap (λ (x : ℕ). bit x j) (t .2) ∙ top-bit j (t .0) (t .1) in omega arith
 
   pub spans : (j s : ℕ) → j ≤ k → s < 2 ^ j → (z : ℕ) × (z < 2 ^ j) × Only p j z × R (bitXor (comb vs z) (comb vs s))
-  spans zero s hj h = (0, pow-pos 0, (λ i l e. absurd (omega arith)), subst R (sym (ap (λ (x : ℕ). bitXor (comb vs 0) (comb vs x)) (lt-one h) ∙ xor-self (comb vs 0))) r0)
+  spans zero s hj h = (0, pow-pos 0, (λ i l e. absurd (omega arith)), rw (lt-one h, xor-self (comb vs 0)) r0)
   spans (suc j) s hj h =
       ⊎-elim
       (λ (l : s < 2 ^ j).
@@ -62,14 +58,17 @@ module _ (vs : List ℕ) (p : ℕ → Bool) (R : ℕ → Type 0) (r0 : R 0) (rx 
       (top-digit j s h)
     where
       go : ((s : ℕ) → s < 2 ^ j → (z : ℕ) × (z < 2 ^ j) × Only p j z × R (bitXor (comb vs z) (comb vs s)))
-          → (u : ℕ) × (u < 2 ^ j) × (s ≡ bitXor (2 ^ j) u) → (b : Bool) → p j ≡ b → (z : ℕ) × (z < 2 ^ suc j) × Only p (suc j) z × R (bitXor (comb vs z) (comb vs s))
+          → (u : ℕ) × (u < 2 ^ j) × (s ≡ bitXor (2 ^ j) u) → (b : Bool) → p j ≡ b
+          → (z : ℕ) × (z < 2 ^ suc j) × Only p (suc j) z × R (bitXor (comb vs z) (comb vs s))
       go ih t true e =
           let w = ih (t .0) (t .1) in (
             bitXor (2 ^ j) (w .0),
             xor-lt (suc j) (2 ^ j) (w .0) (pow-lt (le-refl (suc j))) (lt-of-lt-of-le (w .1) (pow-mono (le-suc j))),
-            below-suc (λ (i : ℕ). p i ≡ false → bit (bitXor (2 ^ j) (w .0)) i ≡ 0) j (λ i l q. under-bit j (w .0) i l ∙ w .2 i l q) (λ q. absurd (true≢false (sym e ∙ q))),
+            below-suc (λ (i : ℕ). p i ≡ false → bit (bitXor (2 ^ j) (w .0)) i ≡ 0) j (λ i l q. under-bit j (w .0) i l ∙ w .2 i l q)
+                (λ q. absurd (true≢false (sym e ∙ q))),
             subst R (sym (ap₂ bitXor (comb-top vs j (w .0)) (ap (comb vs) (t .2) ∙ comb-top vs j (t .0))
-                ∙ xor4 (getD vs j 0) (comb vs (w .0)) (getD vs j 0) (comb vs (t .0)) ∙ ap (λ (x : ℕ). bitXor x (bitXor (comb vs (w .0)) (comb vs (t .0)))) (xor-self (getD vs j 0)))) (w .3),
+                ∙ xor4 (getD vs j 0) (comb vs (w .0)) (getD vs j 0) (comb vs (t .0))
+                ∙ ap (λ (x : ℕ). bitXor x (bitXor (comb vs (w .0)) (comb vs (t .0)))) (xor-self (getD vs j 0)))) (w .3),
           )
       go ih t false e =
           let f = off j hj e in
@@ -81,7 +80,8 @@ module _ (vs : List ℕ) (p : ℕ → Bool) (R : ℕ → Type 0) (r0 : R 0) (rx 
                 (ap (λ (x : ℕ). bitXor (bitXor (comb vs (w .0)) x) (bitXor (comb vs (f .0)) (getD vs j 0))) (comb-xor vs (f .0) (t .0))
                 ∙ xor-assoc (comb vs (w .0)) (bitXor (comb vs (f .0)) (comb vs (t .0))) (bitXor (comb vs (f .0)) (getD vs j 0))
                 ∙ ap (bitXor (comb vs (w .0)))
-                (xor4 (comb vs (f .0)) (comb vs (t .0)) (comb vs (f .0)) (getD vs j 0) ∙ ap (λ (x : ℕ). bitXor x (bitXor (comb vs (t .0)) (getD vs j 0))) (xor-self (comb vs (f .0)))
+                (xor4 (comb vs (f .0)) (comb vs (t .0)) (comb vs (f .0)) (getD vs j 0)
+                ∙ ap (λ (x : ℕ). bitXor x (bitXor (comb vs (t .0)) (getD vs j 0))) (xor-self (comb vs (f .0)))
                 ∙ xor-comm (comb vs (t .0)) (getD vs j 0) ∙ sym (ap (comb vs) (t .2) ∙ comb-top vs j (t .0))))
                 (rx (bitXor (comb vs (w .0)) (comb vs (bitXor (f .0) (t .0)))) (bitXor (comb vs (f .0)) (getD vs j 0)) (w .3) (f .2)),
           )
@@ -123,17 +123,12 @@ and-left false b e q = refl
 pub only-elim : (f : List ℕ) (m s : ℕ) → onlyMarked f m s ≡ true → Only (marked f) m s
 unfolding onlyMarked
 only-elim f m s o i h u =
-    let q : eqb (bit s i) 1 && not (marked f i) ≡ false = none-elim (λ i. eqb (bit s i) 1 && not (marked f i)) m i (not-true (some (λ i. eqb (bit s i) 1 && not (marked f i)) m) o) h in
+    let p : ℕ → Bool = λ i. eqb (bit s i) 1 && not (marked f i) in
+    let q = none-elim p m i (not-true (anyBelow p m) o) h in
     zero-of (bit s i) (bit-lt s i) (and-left (eqb (bit s i) 1) (not (marked f i)) (ap not u) q)
 
 pub only-intro : (f : List ℕ) (m s : ℕ) → Only (marked f) m s → onlyMarked f m s ≡ true
 unfolding onlyMarked
-only-intro f m s o = ap not (none-intro (λ i. eqb (bit s i) 1 && not (marked f i)) m (λ i h. go i h (marked f i) refl))
-  where
-    and-no : (x : Bool) → x && false ≡ false
-    and-no true = refl
-    and-no false = refl
-
-    go : (i : ℕ) → i < m → (b : Bool) → marked f i ≡ b → eqb (bit s i) 1 && not b ≡ false
-    go i h true e = and-no (eqb (bit s i) 1)
-    go i h false e = ap (λ (x : Bool). x && true) (ne-eqb (bit s i) 1 (λ q. let z : _≡_ {A = ℕ} 0 1 = sym (o i h e) ∙ q in omega arith))
+only-intro f m s o =
+    ap not (none-intro (λ i. eqb (bit s i) 1 && not (marked f i)) m (λ i h.
+    by-test (marked f i) (λ e. rw e (and-false (eqb (bit s i) 1))) (λ e. rw (o i h e) refl)))

@@ -9,7 +9,9 @@ use lib.Bits.{bitXor, xor-shr}
 use Rattle.algebra.proofs.Digits.{parts-xor}
 use Rattle.algebra.proofs.Linear.{comb-drop, comb-one, comb-take, comb-xor, linear-comb, lower-linear}
 use Rattle.algebra.specs.Vector.{comb}
-use Rattle.planning.specs.Columns.{delta, phi}
+use Rattle.planning.specs.Columns.{delta, phi, zeroColumn}
+use mathlib.Core.Bool.{true}
+use borrow.Author.Tests.{eqb-true}
 
 pub phi-comb : (m : ℕ) (cols : List ℕ) (s : ℕ) → s < 2 ^ m → comb (phi m cols) s ≡ comb cols s / 2 ^ m
 unfolding phi
@@ -27,3 +29,7 @@ lower-parts m cols x =
     ap (λ (k : ℕ). comb cols k / 2 ^ m) (sym (parts-xor m x)) ∙ ap (λ (k : ℕ). k / 2 ^ m) (comb-xor cols (x % 2 ^ m) (x / 2 ^ m * 2 ^ m))
     ∙ xor-shr (comb cols (x % 2 ^ m)) (comb cols (x / 2 ^ m * 2 ^ m)) m
     ∙ sym (ap₂ bitXor (phi-comb m cols (x % 2 ^ m) (mod-lt x (pow-pos m))) (delta-comb m cols (x / 2 ^ m)))
+
+pub zero-there : (part : List ℕ) (j : ℕ) → zeroColumn part j ≡ true → getD part j 0 ≡ 0
+unfolding zeroColumn
+zero-there part j e = eqb-true (getD part j 0) 0 e

@@ -4,56 +4,55 @@ use mathlib.Core.Bool.{Bool, false, not, true}
 use mathlib.Core.Logic.{⊎-elim}
 use mathlib.Core.List.{List, [], _∷_, map}
 use Prim.Native.Nat.{_%_, _*_, _+_, _-_, _/_, _<_, _^_, _≤_, suc, zero, ℕ}
-use native.Mathlib.Nat.{add-div-right, div-eq-of-lt, div-le-of-le-mul, le-antisymm, mul-one, mul-suc, zero-add}
+use native.Mathlib.Nat.{add-div-right, div-eq-of-lt, div-le-of-le-mul, mul-one, mul-suc, zero-add}
 use native.Mathlib.Numerals.{add-one}
 use native.Mathlib.Omega.{arith}
 use lib.Dec.{eqb}
 use lib.ListN.{getD, length}
 use lib.Bits.{bitXor, xor-zero-r}
-use borrow.Author.Tests.{eqb-false, eqb-true, not-true}
+use borrow.Author.Tests.{eqb-false, not-true}
 use Rattle.algebra.proofs.Basis.{span-zero}
 use Rattle.algebra.proofs.Columns.{apply-transpose}
-use Rattle.algebra.proofs.Linear.{comb-zero, linear-self}
-use Rattle.algebra.proofs.Listed.{listed-length, which-member, which-none}
+use Rattle.algebra.proofs.Linear.{comb-zero, linear-self, comb-after, after-length}
+use Rattle.algebra.proofs.Listed.{which-member, which-none}
 use Rattle.algebra.proofs.Lists.{All}
-use Rattle.algebra.proofs.Search.{le-or-lt, none-elim, some-elim}
-use Rattle.algebra.specs.Matrix.{columns, target}
+use Rattle.algebra.proofs.Search.{any-elim, by-test, le-or-lt, none-elim}
+use Rattle.algebra.specs.Matrix.{columns, target, after}
 use Rattle.algebra.specs.Search.{which}
 use Rattle.algebra.specs.Vector.{comb}
-use Rattle.planning.proofs.Acts.{comb-after}
-use Rattle.planning.proofs.Parts.{phi-comb}
-use Rattle.planning.proofs.Round.{E-dry, S-low, S-lt, S-twice, erases-lt, erases-twice, next-is, next-nonzero, next-ready}
-use Rattle.planning.proofs.Step2.{after-length}
-use Rattle.planning.specs.Columns.{after, phi, placing, zeroColumn}
-use Rattle.planning.specs.Making.{RoundReady, busy, dividedUp, erases, partner, rounds, swaps}
+use Rattle.planning.proofs.Parts.{phi-comb, zero-there}
+use Rattle.planning.proofs.Round.{E-dry, S-low, S-lt, S-twice, erases-lt, erases-twice, next-is, next-nonzero, next-ready, swaps-length}
+use Rattle.planning.specs.Columns.{phi, zeroColumn}
+use Rattle.planning.specs.Making.{busy, dividedUp, erases, roundLeft, roundPass, rounds, swaps}
 use Rattle.planning.specs.Pass.{Pass, complemented, performed}
-use Rattle.planning.specs.Facts.{Ends, erased, nonzero}
+use Rattle.planning.specs.Facts.{Ends, nonzero}
+use Rattle.planning.specs.Inner.{RoundReady}
 
 -- ---- whether φ is zero
 all-of-none : (P : ℕ → Type 0) (l : List ℕ) → length l ≡ 0 → All P l
 all-of-none P [] e = tt
 all-of-none P (x ∷ l) e = absurd (omega (arith, e))
 
-pub nonzero-none : (m : ℕ) (cols : List ℕ) → nonzero m cols ≡ 0 → (j : ℕ) → j < m → getD (phi m cols) j 0 ≡ 0
+nonzero-none : (m : ℕ) (cols : List ℕ) → nonzero m cols ≡ 0 → (j : ℕ) → j < m → getD (phi m cols) j 0 ≡ 0
 unfolding nonzero
-nonzero-none m cols e j h = go (zeroColumn (phi m cols) j) refl
-  where
-    go : (b : Bool) → zeroColumn (phi m cols) j ≡ b → getD (phi m cols) j 0 ≡ 0
-    go true q = unfold zeroColumn in eqb-true (getD (phi m cols) j 0) 0 q
-    go false q = absurd (which-member (λ i. ⊥) (λ j. not (zeroColumn (phi m cols) j)) m 0 (all-of-none (λ i. ⊥) (which (λ j. not (zeroColumn (phi m cols) j)) m 0) e) j (omega arith) (omega arith) (ap not q))
+nonzero-none m cols e j h =
+    let nz : ℕ → Bool = λ j. not (zeroColumn (phi m cols) j) in
+    by-test (zeroColumn (phi m cols) j) (zero-there (phi m cols) j)
+    (λ q. absurd (which-member (λ i. ⊥) nz m 0 (all-of-none (λ i. ⊥) (which nz m 0) e) j (omega arith) (omega arith) (ap not q)))
 
-pub idle-none : (m : ℕ) (cols : List ℕ) → busy m cols ≡ false → nonzero m cols ≡ 0
+idle-none : (m : ℕ) (cols : List ℕ) → busy m cols ≡ false → nonzero m cols ≡ 0
 unfolding busy nonzero
-idle-none m cols e = ap length (which-none (λ j. not (zeroColumn (phi m cols) j)) m 0 (λ i a b. none-elim (λ j. not (zeroColumn (phi m cols) j)) m i e (omega arith)))
+idle-none m cols e =
+    let nz : ℕ → Bool = λ j. not (zeroColumn (phi m cols) j) in
+    ap length (which-none nz m 0 (λ i a b. none-elim nz m i e (omega arith)))
 
 pub busy-some : (m : ℕ) (cols : List ℕ) → busy m cols ≡ true → 0 < nonzero m cols
-unfolding busy
+unfolding busy zeroColumn
 busy-some m cols e =
-    let t = some-elim (λ j. not (zeroColumn (phi m cols) j)) m e in
-    ⊎-elim (λ (z : nonzero m cols ≤ 0). absurd (not-zero (t .0) (t .2) (nonzero-none m cols (omega arith) (t .0) (t .1)))) (λ h. h) (le-or-lt (nonzero m cols) 0)
-  where
-    not-zero : (j : ℕ) → not (zeroColumn (phi m cols) j) ≡ true → getD (phi m cols) j 0 ≡ 0 → ⊥
-    not-zero j q = unfold zeroColumn in eqb-false (getD (phi m cols) j 0) 0 (not-true (eqb (getD (phi m cols) j 0) 0) q)
+    let t = any-elim (λ j. not (zeroColumn (phi m cols) j)) m e in
+    let v = getD (phi m cols) (t .0) 0 in
+    ⊎-elim (λ (z : nonzero m cols ≤ 0). absurd (eqb-false v 0 (not-true (eqb v 0) (t .2)) (nonzero-none m cols (omega arith) (t .0) (t .1))))
+    (λ h. h) (le-or-lt (nonzero m cols) 0)
 
 -- ---- the rounds, step by step
 pub rounds-stop : (g n b m : ℕ) (cols : List ℕ) → busy m cols ≡ false → rounds g n b m cols ≡ cols ∷ []
@@ -62,32 +61,28 @@ rounds-stop zero n b m cols e = refl
 rounds-stop (suc g) n b m cols e = rw (rounds, e)
 
 pub rounds-go : (g n b m : ℕ) (cols : List ℕ) → busy m cols ≡ true
-    → rounds (suc g) n b m cols ≡ after (erases n b m (after cols (swaps n b m cols))) (swaps n b m cols) ∷ rounds g n b m (erased n b m cols)
+    → rounds (suc g) n b m cols ≡ roundPass n b m cols ∷ rounds g n b m (roundLeft n b m cols)
 unfolding rounds
 rounds-go g n b m cols e = rw (rounds, e)
 
 pub idle : (m : ℕ) (cols : List ℕ) → nonzero m cols ≡ 0 → busy m cols ≡ false
-idle m cols e = go (busy m cols) refl
-  where
-    go : (x : Bool) → busy m cols ≡ x → x ≡ false
-    go true q = absurd (omega (arith, busy-some m cols q, e))
-    go false q = refl
+idle m cols e = by-test (busy m cols) (λ q. absurd (omega (arith, busy-some m cols q, e))) (λ q. q)
 
 -- ---- rounding up
-pub up-zero : (k : ℕ) → 0 < k → dividedUp 0 k ≡ 0
+up-zero : (k : ℕ) → 0 < k → dividedUp 0 k ≡ 0
 unfolding dividedUp
 up-zero k h = ap (λ (x : ℕ). x / k) (zero-add (k - 1)) ∙ div-eq-of-lt (omega arith)
 
 pub up-le : (a k : ℕ) → 0 < k → dividedUp a k ≤ a
 unfolding dividedUp
-up-le a k h = ⊎-elim (λ (z : a ≤ 0). omega (arith, ap (λ (u : ℕ). dividedUp u k) (le-antisymm z (omega arith)) ∙ up-zero k h)) (λ (z : 0 < a). div-le-of-le-mul k (big a k z h)) (le-or-lt a 0)
+up-le zero k h = omega (arith, up-zero k h)
+up-le (suc a) k h = div-le-of-le-mul k (big a)
   where
-    big : (a k : ℕ) → 0 < a → 0 < k → a + (k - 1) ≤ k * a
-    big zero k p q = absurd (omega arith)
-    big (suc zero) k p q = omega (arith, mul-one k)
-    big (suc (suc a)) k p q = omega (arith, big (suc a) k (omega arith) q, mul-suc k (suc a))
+    big : (a : ℕ) → suc a + (k - 1) ≤ k * suc a
+    big zero = omega (arith, mul-one k)
+    big (suc a) = omega (arith, big a, mul-suc k (suc a))
 
-pub up-step : (a k : ℕ) → 0 < a → 0 < k → dividedUp a k ≡ suc (dividedUp (a - k) k)
+up-step : (a k : ℕ) → 0 < a → 0 < k → dividedUp a k ≡ suc (dividedUp (a - k) k)
 unfolding dividedUp
 up-step a k ha hk =
     ⊎-elim
@@ -99,7 +94,8 @@ up-step a k ha hk =
     (le-or-lt k a)
 
 -- ---- a pass before others has no complement
-pub complemented-more : (f : List ℕ) (fs : List (List ℕ)) (c : ℕ) → 0 < length fs → complemented (f ∷ fs) c ≡ record { rows = f; complement = 0 } ∷ complemented fs c
+pub complemented-more : (f : List ℕ) (fs : List (List ℕ)) (c : ℕ) → 0 < length fs
+    → complemented (f ∷ fs) c ≡ record { rows = f; complement = 0 } ∷ complemented fs c
 unfolding complemented
 complemented-more f [] c h = absurd (omega arith)
 complemented-more f (g ∷ fs) c h = refl
@@ -113,26 +109,24 @@ pub record Good (n b m : ℕ) (p : List ℕ) : Type 0 where
 
 module _ (n b m : ℕ) (hb : b ≤ m) (hm : m ≤ n) where
   -- E S
-  pub round-good : (cols : List ℕ) → RoundReady n m cols → Good n b m (after (erases n b m (after cols (swaps n b m cols))) (swaps n b m cols))
+  pub round-good : (cols : List ℕ) → RoundReady n m cols → Good n b m (roundPass n b m cols)
   unfolding erases
-  round-good cols k = record {
-    long = after-length e s ∙ unfold swaps placing in listed-length (λ j. 2 ^ partner (which (λ j. not (zeroColumn (phi m cols) j)) b 0) (which (zeroColumn (phi m cols)) (m - b) b) j) n 0;
-    small = λ y. subst (λ (u : ℕ). u < 2 ^ n) (sym (comb-after e s y)) (erases-lt n b m hb hm cols k (comb s y) (S-lt n b m hb hm cols y));
-    regular = λ z h q.
-        let c : comb s z ≡ 0 = sym (erases-twice n b m hb hm cols k (comb s z) (S-lt n b m hb hm cols z)) ∙ ap (comb e) (sym (comb-after e s z) ∙ q) ∙ comb-zero e in
-        sym (S-twice n b m hb hm cols z h) ∙ ap (comb s) c ∙ comb-zero s;
-    dry = λ z h q. ap (λ (u : ℕ). u / 2 ^ m) (comb-after e s z)
-        ∙ E-dry n b m hm (after cols s) hb (comb s z) (S-low n b m hb hm cols z h) (ap (λ (u : ℕ). u / 2 ^ b % 2 ^ (m - b)) (sym (comb-after e s z)) ∙ q);
-  }
-    where
-      s : List ℕ
-      s = swaps n b m cols
-
-      e : List ℕ
-      e = erases n b m (after cols (swaps n b m cols))
+  round-good cols k =
+      let s = swaps n b m cols in
+      let e = erases n b m (after cols s) in
+      record {
+        long = after-length e s ∙ swaps-length n b m cols;
+        small = λ y. rw comb-after (erases-lt n b m hb hm cols k (comb s y) (S-lt n b m hb hm cols y));
+        regular = λ z h q.
+            let c : comb s z ≡ 0
+            = sym (erases-twice n b m hb hm cols k (comb s z) (S-lt n b m hb hm cols z)) ∙ ap (comb e) (sym (comb-after e s z) ∙ q) ∙ comb-zero e in
+            sym (S-twice n b m hb hm cols z h) ∙ ap (comb s) c ∙ comb-zero s;
+        dry = λ z h q. ap (λ (u : ℕ). u / 2 ^ m) (comb-after e s z)
+            ∙ E-dry n b m hm (after cols s) hb (comb s z) (S-low n b m hb hm cols z h) (rw comb-after at q);
+      }
 
   -- F: where φ is zero nothing reaches the lower part
-  pub last-good : (cols : List ℕ) → RoundReady n m cols → nonzero m cols ≡ 0 → Good n b m cols
+  last-good : (cols : List ℕ) → RoundReady n m cols → nonzero m cols ≡ 0 → Good n b m cols
   last-good cols k e = record {
     long = k .long;
     small = k .small;
@@ -141,97 +135,82 @@ module _ (n b m : ℕ) (hb : b ≤ m) (hm : m ≤ n) where
   }
 
   -- a pass after a matrix that is nonsingular and keeps the numbers below 2 ^ m among themselves
-  pub after-good : (p q : List ℕ) → Good n b m p → length q ≡ n → ((x : ℕ) → x < 2 ^ n → comb q x < 2 ^ n) → ((x : ℕ) → x < 2 ^ n → comb q x ≡ 0 → x ≡ 0) → ((x : ℕ) → x < 2 ^ m → comb q x < 2 ^ m) → Good n b m (after p q)
+  pub after-good : (p q : List ℕ) → Good n b m p → length q ≡ n → ((x : ℕ) → x < 2 ^ n → comb q x < 2 ^ n)
+      → ((x : ℕ) → x < 2 ^ n → comb q x ≡ 0 → x ≡ 0) → ((x : ℕ) → x < 2 ^ m → comb q x < 2 ^ m) → Good n b m (after p q)
   after-good p q g l lt reg low = record {
     long = after-length p q ∙ l;
-    small = λ y. subst (λ (u : ℕ). u < 2 ^ n) (sym (comb-after p q y)) (g .small (comb q y));
+    small = λ y. rw comb-after (g .small (comb q y));
     regular = λ z h e. reg z h (g .regular (comb q z) (lt z h) (sym (comb-after p q z) ∙ e));
-    dry = λ z h e. ap (λ (u : ℕ). u / 2 ^ m) (comb-after p q z) ∙ g .dry (comb q z) (low z h) (ap (λ (u : ℕ). u / 2 ^ b % 2 ^ (m - b)) (sym (comb-after p q z)) ∙ e);
+    dry = λ z h e. ap (λ (u : ℕ). u / 2 ^ m) (comb-after p q z) ∙ g .dry (comb q z) (low z h) (rw comb-after at e);
   }
 
-  -- every pass can run
-  pub rounds-good : b < m → (g : ℕ) (cols : List ℕ) → RoundReady n m cols → nonzero m cols ≤ g → All (Good n b m) (rounds g n b m cols)
-  rounds-good hlt zero cols k h = subst (All (Good n b m)) (sym (rounds-stop zero n b m cols (idle m cols (omega arith)))) (last-good cols k (omega arith), tt)
-  rounds-good hlt (suc g) cols k h = go (busy m cols) refl (λ q. rounds-good hlt g (erased n b m cols) (next-ready n b m hb hm cols k) (omega (arith, next-nonzero n b m hb hm cols k, q)))
-    where
-      go : (x : Bool) → busy m cols ≡ x → (0 < nonzero m cols → All (Good n b m) (rounds g n b m (erased n b m cols))) → All (Good n b m) (rounds (suc g) n b m cols)
-      go false e ih = subst (All (Good n b m)) (sym (rounds-stop (suc g) n b m cols e)) (last-good cols k (idle-none m cols e), tt)
-      go true e ih = subst (All (Good n b m)) (sym (rounds-go g n b m cols e)) (round-good cols k, ih (busy-some m cols e))
+  -- a round's pass takes x to where what is left takes it to Ax
+  round-moves : (cols : List ℕ) → RoundReady n m cols → (x : ℕ) → x < 2 ^ n → comb (roundLeft n b m cols) (comb (roundPass n b m cols) x) ≡ comb cols x
+  round-moves cols k x h =
+      let s = swaps n b m cols in
+      let e = erases n b m (after cols s) in
+      next-is n b m hb hm cols k (comb (after e s) x) ∙ ap (λ (u : ℕ). comb cols (comb s (comb e u))) (comb-after e s x)
+      ∙ ap (λ (u : ℕ). comb cols (comb s u)) (erases-twice n b m hb hm cols k (comb s x) (S-lt n b m hb hm cols x))
+      ∙ ap (comb cols) (S-twice n b m hb hm cols x h)
 
-  -- their number
-  pub rounds-length : b < m → (g : ℕ) (cols : List ℕ) → RoundReady n m cols → nonzero m cols ≤ g → length (rounds g n b m cols) ≡ suc (dividedUp (nonzero m cols) (m - b))
-  rounds-length hlt zero cols k h =
-      ap length (rounds-stop zero n b m cols (idle m cols (omega arith))) ∙ ap suc (sym (ap (λ (u : ℕ). dividedUp u (m - b)) (omega arith) ∙ up-zero (m - b) (omega arith)))
-  rounds-length hlt (suc g) cols k h = go (busy m cols) refl (λ q. rounds-length hlt g (erased n b m cols) (next-ready n b m hb hm cols k) (omega (arith, next-nonzero n b m hb hm cols k, q)))
-    where
-      go : (x : Bool) → busy m cols ≡ x → (0 < nonzero m cols → length (rounds g n b m (erased n b m cols)) ≡ suc (dividedUp (nonzero m (erased n b m cols)) (m - b))) → length (rounds (suc g) n b m cols) ≡ suc (dividedUp (nonzero m cols) (m - b))
-      go false e ih = ap length (rounds-stop (suc g) n b m cols e) ∙ ap suc (sym (ap (λ (u : ℕ). dividedUp u (m - b)) (idle-none m cols e) ∙ up-zero (m - b) (omega arith)))
-      go true e ih =
-          let z = busy-some m cols e in
-          ap length (rounds-go g n b m cols e)
-          ∙ ap suc (ih z ∙ ap (λ (u : ℕ). suc (dividedUp u (m - b))) (next-nonzero n b m hb hm cols k) ∙ sym (up-step (nonzero m cols) (m - b) z (omega arith)))
+pub pass-moves : (n : ℕ) (p : List ℕ) (c x : ℕ) → comb p x < 2 ^ n → target (columns n p) c x ≡ bitXor (comb p x) c
+unfolding target
+pass-moves n p c x h = ap (λ (u : ℕ). bitXor u c) (apply-transpose p n x h)
 
-  -- ---- performed one after the other
-  pub pass-moves : (p : List ℕ) (c x : ℕ) → comb p x < 2 ^ n → target (columns n p) c x ≡ bitXor (comb p x) c
-  unfolding target
-  pass-moves p c x h = ap (λ (u : ℕ). bitXor u c) (apply-transpose p n x h)
-
-  rounds-some : (g : ℕ) (cols : List ℕ) → 0 < length (map (columns n) (rounds g n b m cols))
-  unfolding rounds
-  rounds-some zero cols = omega arith
-  rounds-some (suc g) cols = go (busy m cols) refl
-    where
-      go : (x : Bool) → busy m cols ≡ x → 0 < length (map (columns n) (rounds (suc g) n b m cols))
-      go true e = omega (arith, ap (λ (l : List (List ℕ)). length (map (columns n) l)) (rounds-go g n b m cols e))
-      go false e = omega (arith, ap (λ (l : List (List ℕ)). length (map (columns n) l)) (rounds-stop (suc g) n b m cols e))
-
-  pub rounds-move : (g : ℕ) (cols : List ℕ) → RoundReady n m cols → (c x : ℕ) → x < 2 ^ n → performed (complemented (map (columns n) (rounds g n b m cols)) c) x ≡ bitXor (comb cols x) c
-  unfolding rounds performed complemented
-  rounds-move zero cols k c x h = pass-moves cols c x (k .small x)
-  rounds-move (suc g) cols k c x h = go (busy m cols) refl (λ y l. rounds-move g (erased n b m cols) (next-ready n b m hb hm cols k) c y l)
-    where
-      s : List ℕ
-      s = swaps n b m cols
-
-      e : List ℕ
-      e = erases n b m (after cols (swaps n b m cols))
-
-      y : ℕ
-      y = comb (after e s) x
-
-      y-lt : y < 2 ^ n
-      y-lt = round-good cols k .small x
-
-      y-is : comb (erased n b m cols) y ≡ comb cols x
-      y-is =
-          next-is n b m hb hm cols k y ∙ ap (λ (u : ℕ). comb cols (comb s (comb e u))) (comb-after e s x)
-          ∙ ap (λ (u : ℕ). comb cols (comb s u)) (erases-twice n b m hb hm cols k (comb s x) (S-lt n b m hb hm cols x)) ∙ ap (comb cols) (S-twice n b m hb hm cols x h)
-
-      all : List (List ℕ) → ℕ
-      all l = performed (complemented (map (columns n) l) c) x
-
-      go : (q : Bool) → busy m cols ≡ q → ((y : ℕ) → y < 2 ^ n → performed (complemented (map (columns n) (rounds g n b m (erased n b m cols))) c) y ≡ bitXor (comb (erased n b m cols) y) c) → all (rounds (suc g) n b m cols) ≡ bitXor (comb cols x) c
-      go false q ih = ap all (rounds-stop (suc g) n b m cols q) ∙ pass-moves cols c x (k .small x)
-      go true q ih =
-          ap all (rounds-go g n b m cols q)
-          ∙ ap (λ (l : List Pass). performed l x) (complemented-more (columns n (after e s)) (map (columns n) (rounds g n b m (erased n b m cols))) c (rounds-some g (erased n b m cols)))
-          ∙ ap (performed (complemented (map (columns n) (rounds g n b m (erased n b m cols))) c)) (pass-moves (after e s) 0 x y-lt ∙ xor-zero-r y)
-          ∙ ih y y-lt ∙ ap (λ (u : ℕ). bitXor u c) y-is
-
--- ---- where the rounds end
 ends-more : (P : List ℕ → Type 0) (p : List ℕ) (ps : List (List ℕ)) → Ends P ps → Ends P (p ∷ ps)
 ends-more P p [] e = absurd e
 ends-more P p (q ∷ ps) e = e
 
+-- ---- all rounds: what holds where φ is zero, and before a round where it holds of what the round leaves
 module _ (n b m : ℕ) (hb : b < m) (hm : m ≤ n) where
-  fewer : (g : ℕ) (cols : List ℕ) → RoundReady n m cols → nonzero m cols ≤ suc g → busy m cols ≡ true → nonzero m (erased n b m cols) ≤ g
-  fewer g cols k h e = omega (arith, next-nonzero n b m (omega arith) hm cols k, busy-some m cols e)
+  by-rounds : (Q : List ℕ → List (List ℕ) → Type 0) → ((cols : List ℕ) → RoundReady n m cols → busy m cols ≡ false → Q cols (cols ∷ []))
+      → ((cols : List ℕ) (ps : List (List ℕ)) → RoundReady n m cols → busy m cols ≡ true → Q (roundLeft n b m cols) ps
+      → Q cols (roundPass n b m cols ∷ ps))
+      → (g : ℕ) (cols : List ℕ) → RoundReady n m cols → nonzero m cols ≤ g → Q cols (rounds g n b m cols)
+  by-rounds Q last more zero cols k h = let e = idle m cols (omega arith) in subst (Q cols) (sym (rounds-stop zero n b m cols e)) (last cols k e)
+  by-rounds Q last more (suc g) cols k h =
+      by-test (busy m cols)
+      (λ e. subst (Q cols) (sym (rounds-go g n b m cols e)) (more cols (rounds g n b m (roundLeft n b m cols)) k e
+      (by-rounds Q last more g (roundLeft n b m cols) (next-ready n b m (omega arith) hm cols k)
+      (omega (arith, next-nonzero n b m (omega arith) hm cols k, busy-some m cols e)))))
+      (λ e. subst (Q cols) (sym (rounds-stop (suc g) n b m cols e)) (last cols k e))
 
-  -- while φ has nonzero columns: at the end it has none
-  pub rounds-end : (g : ℕ) (cols : List ℕ) → RoundReady n m cols → nonzero m cols ≤ g → Ends (λ f. busy m f ≡ false) (rounds g n b m cols)
-  rounds-end zero cols k h = let e = idle m cols (omega arith) in subst (Ends (λ f. busy m f ≡ false)) (sym (rounds-stop zero n b m cols e)) e
-  rounds-end (suc g) cols k h = go (busy m cols) refl (λ q. rounds-end g (erased n b m cols) (next-ready n b m (omega arith) hm cols k) (fewer g cols k h q))
-    where
-      go : (x : Bool) → busy m cols ≡ x → (busy m cols ≡ true → Ends (λ f. busy m f ≡ false) (rounds g n b m (erased n b m cols))) → Ends (λ f. busy m f ≡ false) (rounds (suc g) n b m cols)
-      go false e ih = subst (Ends (λ f. busy m f ≡ false)) (sym (rounds-stop (suc g) n b m cols e)) e
-      go true e ih = subst (Ends (λ f. busy m f ≡ false)) (sym (rounds-go g n b m cols e)) (ends-more (λ f. busy m f ≡ false) (after (erases n b m (after cols (swaps n b m cols))) (swaps n b m cols)) (rounds g n b m (erased n b m cols)) (ih e))
+  module _ (g : ℕ) (cols : List ℕ) (k : RoundReady n m cols) (h : nonzero m cols ≤ g) where
+    -- every pass can run
+    pub rounds-good : All (Good n b m) (rounds g n b m cols)
+    rounds-good =
+        by-rounds (λ cols ps. All (Good n b m) ps) (λ cols k e. (last-good n b m (omega arith) hm cols k (idle-none m cols e), tt))
+        (λ cols ps k e ih. (round-good n b m (omega arith) hm cols k, ih)) g cols k h
+
+    -- their number
+    pub rounds-length : length (rounds g n b m cols) ≡ suc (dividedUp (nonzero m cols) (m - b))
+    rounds-length =
+        by-rounds (λ cols ps. length ps ≡ suc (dividedUp (nonzero m cols) (m - b)))
+        (λ cols k e. ap suc (sym (ap (λ (u : ℕ). dividedUp u (m - b)) (idle-none m cols e) ∙ up-zero (m - b) (omega arith))))
+        (λ cols ps k e ih. ap suc (ih ∙ ap (λ (u : ℕ). suc (dividedUp u (m - b))) (next-nonzero n b m (omega arith) hm cols k)
+        ∙ sym (up-step (nonzero m cols) (m - b) (busy-some m cols e) (omega arith)))) g cols k h
+
+    -- while φ has nonzero columns: at the end it has none
+    pub rounds-end : Ends (λ f. busy m f ≡ false) (rounds g n b m cols)
+    rounds-end =
+        by-rounds (λ cols ps. Ends (λ f. busy m f ≡ false) ps) (λ cols k e. e)
+        (λ cols ps k e ih. ends-more (λ f. busy m f ≡ false) (roundPass n b m cols) ps ih) g cols k h
+
+    -- performed one after the other
+    pub rounds-move : (c x : ℕ) → x < 2 ^ n → performed (complemented (map (columns n) (rounds g n b m cols)) c) x ≡ bitXor (comb cols x) c
+    unfolding performed complemented
+    rounds-move c =
+        by-rounds Moves (λ cols k e. (omega arith, λ x l. pass-moves n cols c x (k .small x)))
+        (λ cols ps k e ih.
+        let p = roundPass n b m cols in
+        let small = round-good n b m (omega arith) hm cols k .small in (
+          omega arith,
+          λ x l.
+              ap (λ (l : List Pass). performed l x) (complemented-more (columns n p) (map (columns n) ps) c (ih .0))
+              ∙ ap (performed (complemented (map (columns n) ps) c)) (pass-moves n p 0 x (small x) ∙ xor-zero-r (comb p x))
+              ∙ ih .1 (comb p x) (small x) ∙ ap (λ (u : ℕ). bitXor u c) (round-moves n b m (omega arith) hm cols k x l),
+        )) g cols k h .1
+      where
+        Moves : List ℕ → List (List ℕ) → Type 0
+        Moves cols ps =
+            (0 < length (map (columns n) ps)) × ((x : ℕ) → x < 2 ^ n → performed (complemented (map (columns n) ps) c) x ≡ bitXor (comb cols x) c)

@@ -1,5 +1,5 @@
 -- Which plans are sound? Those whose route can run and whose other places are zero. Assumes nothing.
-use mathlib.Core.Path.{_∙_, _≡_, ap, refl, subst, sym}
+use mathlib.Core.Path.{_∙_, _≡_, ap, refl}
 use mathlib.Core.Bool.{Bool, _&&_, _||_, false, not, true}
 use mathlib.Core.Logic.{_⊎_, inl, inr, ⊎-elim}
 use mathlib.Core.List.{List, []}
@@ -8,26 +8,28 @@ use native.Mathlib.Omega.{arith}
 use lib.Dec.{eqb, leb}
 use lib.ListN.{List·getD-eq-default, getD, length}
 use borrow.Author.Tests.{eq-eqb, le-leb, leb-false, leb-true, lt-leb, not-true}
-use Rattle.bank.proofs.Limits.{allowed→limits, limits→allowed}
-use Rattle.bank.specs.Geometry.{Allowed, inLimits, records}
+use Rattle.bank.proofs.Limits.{Allowed, limits→allowed}
+use Rattle.bank.specs.Geometry.{inLimits, records}
 use Rattle.bank.specs.Limits.{PASSES, ROWS}
 use Rattle.bank.specs.declared.Geometry.{Geometry}
 use Rattle.algebra.proofs.Search.{and-both, and-l, and-r, le-or-lt, none-elim, none-intro}
 use Rattle.algebra.specs.Matrix.{singular, spills}
-use Rattle.algebra.specs.Search.{some}
+use Rattle.algebra.specs.Search.{anyBelow}
 use Rattle.planning.proofs.Stored.{route-at, route-back, route-length, stored-complement, stored-place, stored-row, taken-at, taken-length}
 use Rattle.planning.specs.Pass.{Pass, Route, passAt, passIn, total}
-use Rattle.planning.specs.Running.{Runs, canRun, countInLimits, singularPass, sound, meantZero, spareComplement, spareRow, spillingPass, strayComplement, strayRow}
+use Rattle.planning.specs.Running.{canRun, countInLimits, meantZero, singularPass, sound}
+use Rattle.planning.specs.Running.{spareComplement, spareRow, spillingPass, strayComplement, strayRow}
 use Rattle.planning.specs.Stored.{planOf, routeOf, storedComplements, storedPass, storedRows}
 use Rattle.planning.specs.declared.Plan.{Plan}
 use Rattle.planning.specs.declared.state.State.{State}
+use Rattle.planning.specs.Inner.{Runs}
 
 -- the conditions of number 7, one by one
 pub record Checked (plan : Plan) : Type 0 where
   pub limits : inLimits (plan .geometry) ≡ true
   pub count : countInLimits plan ≡ true
-  pub rows-within : strayRow plan ≡ false
-  pub complements-within : strayComplement plan ≡ false
+  pub rows-below : strayRow plan ≡ false
+  pub complements-below : strayComplement plan ≡ false
   pub rows-zero : spareRow plan ≡ false
   pub complements-zero : spareComplement plan ≡ false
   pub regular : singularPass plan ≡ false
@@ -51,18 +53,18 @@ sound→checked plan e =
     record {
       limits = and-l (inLimits (plan .geometry)) (countInLimits plan) e1;
       count = and-r (inLimits (plan .geometry)) (countInLimits plan) e1;
-      rows-within = not-true (strayRow plan) (and-r c1 (not (strayRow plan)) e2);
-      complements-within = not-true (strayComplement plan) (and-r c2 (not (strayComplement plan)) e3);
+      rows-below = not-true (strayRow plan) (and-r c1 (not (strayRow plan)) e2);
+      complements-below = not-true (strayComplement plan) (and-r c2 (not (strayComplement plan)) e3);
       rows-zero = not-true (spareRow plan) (and-r c3 (not (spareRow plan)) e4);
       complements-zero = not-true (spareComplement plan) (and-r c4 (not (spareComplement plan)) e5);
       regular = not-true (singularPass plan) (and-r c5 (not (singularPass plan)) e6);
       dry = not-true (spillingPass plan) (and-r c6 (not (spillingPass plan)) e);
     }
 
-pub checked→sound : (plan : Plan) → Checked plan → sound plan ≡ true
+checked→sound : (plan : Plan) → Checked plan → sound plan ≡ true
 unfolding sound
 checked→sound plan k =
-    rw (k .limits, k .count, k .rows-within, k .complements-within, k .rows-zero, k .complements-zero, k .regular, k .dry)
+    rw (k .limits, k .count, k .rows-below, k .complements-below, k .rows-zero, k .complements-zero, k .regular, k .dry)
 
 -- ---- what a sound plan gives
 module _ (plan : Plan) (e : sound plan ≡ true) where
@@ -72,7 +74,7 @@ module _ (plan : Plan) (e : sound plan ≡ true) where
   pub sound-allowed : Allowed (plan .geometry)
   sound-allowed = limits→allowed (plan .geometry) (checked .limits)
 
-  pub sound-some : 1 ≤ plan .count
+  sound-some : 1 ≤ plan .count
   unfolding countInLimits
   sound-some = leb-true 1 (plan .count) (and-l (leb 1 (plan .count)) _ (checked .count))
 
@@ -80,63 +82,45 @@ module _ (plan : Plan) (e : sound plan ≡ true) where
   unfolding countInLimits
   sound-few = leb-true (plan .count) PASSES (and-r (leb 1 (plan .count)) (leb (plan .count) PASSES) (checked .count))
 
-  pub sound-row : (p i : ℕ) → p < plan .count → i < plan .geometry .n → getD (plan .rows) (p * ROWS + i) 0 < records (plan .geometry)
+  sound-row : (p i : ℕ) → p < plan .count → i < plan .geometry .n → getD (plan .rows) (p * ROWS + i) 0 < records (plan .geometry)
+  unfolding strayRow
   sound-row p i hp hi =
-      leb-false (records (plan .geometry)) (getD (plan .rows) (p * ROWS + i) 0)
-      (none-elim (λ i. leb (records (plan .geometry)) (getD (plan .rows) (p * ROWS + i) 0)) (plan .geometry .n) i
-      (none-elim (λ p. some (λ i. leb (records (plan .geometry)) (getD (plan .rows) (p * ROWS + i) 0)) (plan .geometry .n)) (plan .count) p none hp) hi)
-    where
-      none : some (λ p. some (λ i. leb (records (plan .geometry)) (getD (plan .rows) (p * ROWS + i) 0)) (plan .geometry .n)) (plan .count) ≡ false
-      none = unfold strayRow in checked .rows-within
+      let stray : ℕ → ℕ → Bool = λ p i. leb (records (plan .geometry)) (getD (plan .rows) (p * ROWS + i) 0) in
+      leb-false (records (plan .geometry)) (getD (plan .rows) (p * ROWS + i) 0) (none-elim (stray p) (plan .geometry .n) i
+      (none-elim (λ p. anyBelow (stray p) (plan .geometry .n)) (plan .count) p (checked .rows-below) hp) hi)
 
-  pub sound-complement : (p : ℕ) → p < plan .count → getD (plan .complements) p 0 < records (plan .geometry)
+  sound-complement : (p : ℕ) → p < plan .count → getD (plan .complements) p 0 < records (plan .geometry)
+  unfolding strayComplement
   sound-complement p hp =
       leb-false (records (plan .geometry)) (getD (plan .complements) p 0)
-      (none-elim (λ p. leb (records (plan .geometry)) (getD (plan .complements) p 0)) (plan .count) p none hp)
-    where
-      none : some (λ p. leb (records (plan .geometry)) (getD (plan .complements) p 0)) (plan .count) ≡ false
-      none = unfold strayComplement in checked .complements-within
+      (none-elim (λ p. leb (records (plan .geometry)) (getD (plan .complements) p 0)) (plan .count) p (checked .complements-below) hp)
 
-  pub sound-regular : (p : ℕ) → p < plan .count → singular (plan .geometry .n) (passAt (routeOf plan) p .rows) ≡ false
-  sound-regular p hp = none-elim (λ p. singular (plan .geometry .n) (passAt (routeOf plan) p .rows)) (plan .count) p none hp
-    where
-      none : some (λ p. singular (plan .geometry .n) (passAt (routeOf plan) p .rows)) (plan .count) ≡ false
-      none = unfold singularPass in checked .regular
+  sound-regular : (p : ℕ) → p < plan .count → singular (plan .geometry .n) (passAt (routeOf plan) p .rows) ≡ false
+  unfolding singularPass
+  sound-regular p = none-elim (λ p. singular (plan .geometry .n) (passAt (routeOf plan) p .rows)) (plan .count) p (checked .regular)
 
   pub sound-dry : (p : ℕ) → p < plan .count → spills (plan .geometry .b) (plan .geometry .m) (passAt (routeOf plan) p .rows) ≡ false
-  sound-dry p hp = none-elim (λ p. spills (plan .geometry .b) (plan .geometry .m) (passAt (routeOf plan) p .rows)) (plan .count) p none hp
-    where
-      none : some (λ p. spills (plan .geometry .b) (plan .geometry .m) (passAt (routeOf plan) p .rows)) (plan .count) ≡ false
-      none = unfold spillingPass in checked .dry
+  unfolding spillingPass
+  sound-dry p = none-elim (λ p. spills (plan .geometry .b) (plan .geometry .m) (passAt (routeOf plan) p .rows)) (plan .count) p (checked .dry)
 
 -- the route of a sound plan can run
 pub sound→runs : (plan : Plan) → length (plan .rows) ≡ PASSES * ROWS → sound plan ≡ true → Runs (routeOf plan)
-unfolding routeOf
+unfolding routeOf storedPass
 sound→runs plan long e = record {
-  allowed = sound-allowed plan e;
+  inside = sound→checked plan e .limits;
   some-pass = omega (arith, sound-some plan e, route-length plan);
   few-passes = omega (arith, sound-few plan e, route-length plan);
   each-runs = λ p h.
-      let hp : p < plan .count = subst (λ (k : ℕ). p < k) (route-length plan) h in record {
-        rows-all = ap (λ (q : Pass). length (q .rows)) (route-at plan p hp) ∙ all p hp;
-        rows-within = λ i hi. subst (λ (k : ℕ). k < records (plan .geometry)) (sym (ap (λ (q : Pass). getD (q .rows) i 0) (route-at plan p hp) ∙ at p i hi)) (sound-row plan e p i hp hi);
-        complement-within = subst (λ (k : ℕ). k < records (plan .geometry)) (sym (ap (λ (q : Pass). q .complement) (route-at plan p hp) ∙ complement p)) (sound-complement plan e p hp);
+      let n = plan .geometry .n in
+      let hp : p < plan .count = rw route-length at h in record {
+        rows-all = ap (λ (q : Pass). length (q .rows)) (route-at plan p hp)
+            ∙ taken-length PASSES ROWS n (plan .rows) p long (sound-allowed plan e .n-high) (omega (arith, sound-few plan e));
+        rows-below = λ i hi. rw (route-at plan p hp, taken-at ROWS n (plan .rows) p i hi) (sound-row plan e p i hp hi);
+        complement-below = rw (route-at plan p hp) (sound-complement plan e p hp);
         regular = sound-regular plan e p hp;
         dry = sound-dry plan e p hp;
       };
 }
-  where
-    n : ℕ
-    n = plan .geometry .n
-
-    all : (p : ℕ) → p < plan .count → length (storedPass ROWS n (plan .rows) (plan .complements) p .rows) ≡ n
-    all p hp = unfold storedPass in taken-length PASSES ROWS n (plan .rows) p long (sound-allowed plan e .n-high) (omega (arith, sound-few plan e))
-
-    at : (p i : ℕ) → i < n → getD (storedPass ROWS n (plan .rows) (plan .complements) p .rows) i 0 ≡ getD (plan .rows) (p * ROWS + i) 0
-    at p i hi = unfold storedPass in taken-at ROWS n (plan .rows) p i hi
-
-    complement : (p : ℕ) → storedPass ROWS n (plan .rows) (plan .complements) p .complement ≡ getD (plan .complements) p 0
-    complement p = unfold storedPass in refl
 
 -- ---- the state's next step
 module _ (plan : Plan) (state : State) where
@@ -161,11 +145,14 @@ module _ (route : Route) (k : Runs route) where
   abbrev g : Geometry
   g = route .geometry
 
+  pub runs-allowed : Allowed g
+  runs-allowed = limits→allowed g (k .inside)
+
   abbrev ps : List Pass
   ps = route .passes
 
   pub runs-back : routeOf (planOf route) ≡ route
-  runs-back = route-back route (k .few-passes) (k .allowed .n-high) (λ p h. k .each-runs p h .rows-all)
+  runs-back = route-back route (k .few-passes) (runs-allowed .n-high) (λ p h. k .each-runs p h .rows-all)
 
   -- past the passes, and past the rows of a pass, the rows are zero
   zero-past : (p i : ℕ) → length ps ≤ p → getD (passIn ps p .rows) i 0 ≡ 0
@@ -182,14 +169,15 @@ module _ (route : Route) (k : Runs route) where
   no-stray-row : (p i : ℕ) → p < length ps → i < g .n → leb (records g) (getD (storedRows PASSES ROWS ps) (p * ROWS + i) 0) ≡ false
   no-stray-row p i hp hi =
       lt-leb (records g) (getD (storedRows PASSES ROWS ps) (p * ROWS + i) 0)
-      (subst (λ (x : ℕ). x < records g) (sym (stored-row PASSES ROWS ps p i (omega (arith, k .few-passes)) (omega (arith, k .allowed .n-high)))) (k .each-runs p hp .rows-within i hi))
+      (rw (stored-row PASSES ROWS ps p i (omega (arith, k .few-passes)) (omega (arith, runs-allowed .n-high))) (k .each-runs p hp .rows-below i hi))
 
   no-stray-complement : (p : ℕ) → p < length ps → leb (records g) (getD (storedComplements PASSES ps) p 0) ≡ false
   no-stray-complement p hp =
       lt-leb (records g) (getD (storedComplements PASSES ps) p 0)
-      (subst (λ (x : ℕ). x < records g) (sym (stored-complement PASSES ROWS ps p (omega (arith, k .few-passes)))) (k .each-runs p hp .complement-within))
+      (rw (stored-complement PASSES ROWS ps p (omega (arith, k .few-passes))) (k .each-runs p hp .complement-below))
 
-  no-spare-row : (q : ℕ) → q < PASSES * ROWS → leb (length ps) (q / ROWS) || leb (g .n) (q % ROWS) ≡ true → not (eqb (getD (storedRows PASSES ROWS ps) q 0) 0) ≡ false
+  no-spare-row : (q : ℕ) → q < PASSES * ROWS → leb (length ps) (q / ROWS) || leb (g .n) (q % ROWS) ≡ true
+      → not (eqb (getD (storedRows PASSES ROWS ps) q 0) 0) ≡ false
   no-spare-row q h e =
       ap not (eq-eqb (getD (storedRows PASSES ROWS ps) q 0) 0 (stored-place PASSES ROWS ps q h
       ∙ ⊎-elim (λ (l : leb (length ps) (q / ROWS) ≡ true). zero-past (q / ROWS) (q % ROWS) (leb-true (length ps) (q / ROWS) l))
@@ -203,12 +191,12 @@ module _ (route : Route) (k : Runs route) where
 
   pub runs→sound : sound (planOf route) ≡ true
   runs→sound = checked→sound (planOf route) (record {
-    limits = unfold planOf in allowed→limits (route .geometry) (k .allowed);
+    limits = unfold planOf in k .inside;
     count = unfold planOf countInLimits in counted;
-    rows-within = unfold planOf strayRow in
-        none-intro (λ p. some (λ i. leb (records g) (getD (storedRows PASSES ROWS ps) (p * ROWS + i) 0)) (g .n)) (length ps)
+    rows-below = unfold planOf strayRow in
+        none-intro (λ p. anyBelow (λ i. leb (records g) (getD (storedRows PASSES ROWS ps) (p * ROWS + i) 0)) (g .n)) (length ps)
         (λ p hp. none-intro (λ i. leb (records g) (getD (storedRows PASSES ROWS ps) (p * ROWS + i) 0)) (g .n) (λ i hi. no-stray-row p i hp hi));
-    complements-within = unfold planOf strayComplement in
+    complements-below = unfold planOf strayComplement in
         none-intro (λ p. leb (records g) (getD (storedComplements PASSES ps) p 0)) (length ps) (λ p hp. no-stray-complement p hp);
     rows-zero = unfold planOf spareRow meantZero in
         none-intro (λ q. (leb (length ps) (q / ROWS) || leb (g .n) (q % ROWS)) && not (eqb (getD (storedRows PASSES ROWS ps) q 0) 0)) (PASSES * ROWS)
@@ -216,16 +204,10 @@ module _ (route : Route) (k : Runs route) where
     complements-zero = unfold planOf spareComplement in
         none-intro (λ p. leb (length ps) p && not (eqb (getD (storedComplements PASSES ps) p 0) 0)) PASSES
         (λ p h. and-never (leb (length ps) p) (not (eqb (getD (storedComplements PASSES ps) p 0) 0)) (no-spare-complement p h));
-    regular = regular;
-    dry = dry;
+    regular = unfold planOf singularPass in
+        none-intro (λ p. singular (g .n) (passAt (routeOf (planOf route)) p .rows)) (length ps)
+        (λ p h. ap (λ (r : Route). singular (g .n) (passAt r p .rows)) runs-back ∙ k .each-runs p h .regular);
+    dry = unfold planOf spillingPass in
+        none-intro (λ p. spills (g .b) (g .m) (passAt (routeOf (planOf route)) p .rows)) (length ps)
+        (λ p h. ap (λ (r : Route). spills (g .b) (g .m) (passAt r p .rows)) runs-back ∙ k .each-runs p h .dry);
   })
-    where
-      regular : singularPass (planOf route) ≡ false
-      regular = unfold singularPass in
-          none-intro (λ p. singular (planOf route .geometry .n) (passAt (routeOf (planOf route)) p .rows)) (planOf route .count)
-          (λ p h. unfold planOf in ap (λ (r : Route). singular (route .geometry .n) (passAt r p .rows)) runs-back ∙ k .each-runs p h .regular)
-
-      dry : spillingPass (planOf route) ≡ false
-      dry = unfold spillingPass in
-          none-intro (λ p. spills (planOf route .geometry .b) (planOf route .geometry .m) (passAt (routeOf (planOf route)) p .rows)) (planOf route .count)
-          (λ p h. unfold planOf in ap (λ (r : Route). spills (route .geometry .b) (route .geometry .m) (passAt r p .rows)) runs-back ∙ k .each-runs p h .dry)

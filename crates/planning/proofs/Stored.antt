@@ -43,7 +43,7 @@ pub taken-at : (width n : ℕ) (l : List ℕ) (p i : ℕ) → i < n → getD (ta
 taken-at width n l p i h = getD-take n (drop (p * width) l) i 0 h ∙ getD-drop (p * width) l i 0
 
 -- a pass comes back as it was
-pub stored-back : (room width n : ℕ) (ps : List Pass) (p : ℕ) → n ≤ width → p < room → length (passIn ps p .rows) ≡ n
+stored-back : (room width n : ℕ) (ps : List Pass) (p : ℕ) → n ≤ width → p < room → length (passIn ps p .rows) ≡ n
     → storedPass width n (storedRows room width ps) (storedComplements room ps) p ≡ passIn ps p
 unfolding storedPass
 stored-back room width n ps p hn hp hl =

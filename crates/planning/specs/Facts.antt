@@ -1,5 +1,5 @@
--- What is true of the plan without choices? In the order of the rules. What a plan does for an order, and in how many passes, stands with the demands.
--- Assumes nothing.
+-- What is true of the plan without choices? In the order of the rules. What a plan does for an order, and in how many passes,
+-- stands with the demands. Assumes nothing.
 use mathlib.Core.Path.{_≡_}
 use mathlib.Core.Bool.{false, not, true}
 use mathlib.Core.List.{List, [], _∷_}
@@ -11,11 +11,12 @@ use Rattle.bank.specs.declared.Geometry.{Geometry}
 use Rattle.bank.specs.Geometry.{inLimits, records}
 use Rattle.algebra.specs.Search.{which}
 use Rattle.algebra.specs.Vector.{comb}
-use Rattle.algebra.specs.Matrix.{columns, marked, rank, singular}
-use Rattle.planning.specs.Columns.{after, delta, onlyMarked, phi, undone, zeroColumn}
-use Rattle.planning.specs.Making.{RoundReady, busy, chosen, eraser, erases, operations, passesFor, rounds, step1, summands, swaps, unmarked}
+use Rattle.algebra.specs.Matrix.{after, columns, inverse, marked, rank, singular}
+use Rattle.planning.specs.Columns.{delta, onlyMarked, phi, zeroColumn}
+use Rattle.planning.specs.Inner.{RoundReady, Runs}
+use Rattle.planning.specs.Making.{afterSwaps, busy, chosen, eraser, operations, passesFor, roundLeft, rounds, step1, summands, unmarked}
 use Rattle.planning.specs.Pass.{Route}
-use Rattle.planning.specs.Running.{Runs, sound}
+use Rattle.planning.specs.Running.{sound}
 use Rattle.planning.specs.Stored.{planFor, planOf, routeOf}
 use Rattle.planning.specs.declared.Plan.{Plan}
 
@@ -27,10 +28,11 @@ pub record OnlyOne (k : ℕ) (Q : ℕ → Type 0) (x : ℕ) : Type 0 where
 
 -- ---- 1 and 2, and where the rounds begin and end; a has the columns of A
 
--- A after step 1, and after 2: AP
+-- A after step 1
 abbrev pub afterStep1 : ℕ → ℕ → List ℕ → List ℕ
 afterStep1 n m a = after a (step1 n m a)
 
+-- A after steps 1 and 2: AP
 abbrev pub afterStep2 : ℕ → ℕ → List ℕ → List ℕ
 afterStep2 n m a = after a (operations n m a)
 
@@ -57,10 +59,10 @@ pub record StepFacts (n b m : ℕ) (a : List ℕ) : Type 0 where
   pub one-sum : (j : ℕ) → j < m → marked (phi m (afterStep1 n m a)) j ≡ false
       → OnlyOne (2 ^ m) (MarkedSum m (afterStep1 n m a) j) (summands m (afterStep1 n m a) j)
   -- P is its own inverse
-  pub P-own-inverse : undone n (operations n m a) ≡ operations n m a
-  -- in AP the columns of φ that aren't zero are those that are marked in A ..
+  pub P-own-inverse : columns n (inverse n (columns n (operations n m a))) ≡ operations n m a
+  -- in AP the columns of φ that aren't zero are those that are marked in A
   pub φ-reduced : (j : ℕ) → j < m → not (zeroColumn (phi m (afterStep2 n m a)) j) ≡ marked (phi m a) j
-  -- .. and so number rank φ
+  -- they number rank φ
   pub φ-rank : nonzero m (afterStep2 n m a) ≡ rank (phi m a) m
   -- AP is as the first round needs it
   pub AP-ready : RoundReady n m (afterStep2 n m a)
@@ -69,27 +71,20 @@ pub record StepFacts (n b m : ℕ) (a : List ℕ) : Type 0 where
 
 -- ---- 3: one round, of a matrix as AP is
 
--- the matrix after S, and after S and E
-abbrev pub swapped : ℕ → ℕ → ℕ → List ℕ → List ℕ
-swapped n b m cols = after cols (swaps n b m cols)
-
-abbrev pub erased : ℕ → ℕ → ℕ → List ℕ → List ℕ
-erased n b m cols = after (swapped n b m cols) (erases n b m (swapped n b m cols))
-
 -- z picks columns from m on only, and column j is zero below with them added
 abbrev pub Erasing : ℕ → List ℕ → ℕ → ℕ → Type 0
 Erasing m cols j z = (z % 2 ^ m ≡ 0) × (bitXor (getD cols j 0) (comb cols z) / 2 ^ m ≡ 0)
 
 pub record RoundFacts (n b m : ℕ) (cols : List ℕ) : Type 0 where
   -- S leaves a matrix as E needs it
-  pub S-keeps : RoundReady n m (swapped n b m cols)
+  pub S-keeps : RoundReady n m (afterSwaps n b m cols)
   -- for each nonzero column of b..m-1 there is one set of whole columns m..n-1 that makes it zero below
-  pub one-set : (j : ℕ) → b ≤ j → j < m → zeroColumn (phi m (swapped n b m cols)) j ≡ false
-      → OnlyOne (2 ^ n) (Erasing m (swapped n b m cols) j) (eraser n b m (swapped n b m cols) j)
+  pub one-set : (j : ℕ) → b ≤ j → j < m → zeroColumn (phi m (afterSwaps n b m cols)) j ≡ false
+      → OnlyOne (2 ^ n) (Erasing m (afterSwaps n b m cols) j) (eraser n b m (afterSwaps n b m cols) j)
   -- E leaves a matrix as the next round needs it
-  pub E-keeps : RoundReady n m (erased n b m cols)
+  pub E-keeps : RoundReady n m (roundLeft n b m cols)
   -- m - b nonzero columns of φ are zero after a round, or all that were left
-  pub round-clears : nonzero m (erased n b m cols) ≡ nonzero m cols - (m - b)
+  pub round-clears : nonzero m (roundLeft n b m cols) ≡ nonzero m cols - (m - b)
 
 -- ---- 4: the passes, and the plan
 
@@ -97,12 +92,12 @@ pub record RoundFacts (n b m : ℕ) (cols : List ℕ) : Type 0 where
 pub record Taken (g : Geometry) (rows : List ℕ) (c : ℕ) : Type 0 where
   pub inside : inLimits g ≡ true
   pub rows-all : length rows ≡ g .n
-  pub rows-within : (i : ℕ) → i < g .n → getD rows i 0 < records g
-  pub complement-within : c < records g
+  pub rows-below : (i : ℕ) → i < g .n → getD rows i 0 < records g
+  pub complement-below : c < records g
   pub regular : singular (g .n) rows ≡ false
 
 pub record PlanFacts (g : Geometry) (rows : List ℕ) (c : ℕ) : Type 0 where
-  -- the steps, as above
+  -- steps 1 and 2, and the rounds
   pub steps : StepFacts (g .n) (g .b) (g .m) (columns (g .n) rows)
   -- with no rounds the only pass is A, with c
   pub no-rounds : rank (phi (g .m) (columns (g .n) rows)) (g .m) ≡ 0 → passesFor g rows c ≡ record { rows = rows; complement = c } ∷ []
@@ -116,7 +111,7 @@ pub record Facts : Type 0 where
   pub round : (n b m : ℕ) → b ≤ m → m ≤ n → (cols : List ℕ) → RoundReady n m cols → RoundFacts n b m cols
   -- whoever made a sound plan, its passes can run; its rows fill the room of their array
   pub sound-runs : (plan : Plan) → length (plan .rows) ≡ PASSES * ROWS → sound plan ≡ true → Runs (routeOf plan)
-  -- a route that can run is a sound plan when it is stored ..
+  -- a route that can run is a sound plan when it is stored
   pub runs-sound : (route : Route) → Runs route → sound (planOf route) ≡ true
-  -- .. and comes back
+  -- a route that is stored comes back
   pub comes-back : (route : Route) → Runs route → routeOf (planOf route) ≡ route

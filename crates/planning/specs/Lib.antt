@@ -5,4 +5,5 @@ pub mod Making
 pub mod Stored
 pub mod State
 pub mod Running
+pub mod Inner
 pub mod Facts

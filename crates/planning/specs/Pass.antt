@@ -3,7 +3,7 @@ use mathlib.Core.List.{List, [], _∷_}
 use Prim.Native.Nat.{ℕ, _*_, _/_}
 use lib.ListN.{length, getD}
 use Rattle.bank.specs.declared.Geometry.{Geometry}
-use Rattle.bank.specs.Geometry.{records, block, drives, stripes}
+use Rattle.bank.specs.Geometry.{records, block, drives, tiers}
 use Rattle.algebra.specs.Matrix.{target}
 use Rattle.planning.specs.declared.Phase.{Phase}
 use Rattle.planning.specs.declared.Phase.the-variants.{Reads, Writes}
@@ -42,7 +42,7 @@ phases route = Reads ∷ Writes ∷ []
 
 -- the steps of a memoryload: M/(BD) in each phase
 unfoldable pub loadSteps : Route → ℕ
-loadSteps route = length (phases route) * stripes (route .geometry)
+loadSteps route = length (phases route) * tiers (route .geometry)
 
 -- the steps of a pass: N/(BD) in each phase
 unfoldable pub passSteps : Route → ℕ

@@ -1,12 +1,2 @@
-pub mod Numbers
-pub mod FirstLine
+pub mod Decimals
 pub mod RowLines
-pub mod Rest
-pub mod Joined
-pub mod OneText
-pub mod Some
-pub mod Main
-pub mod Put
-pub mod Decimal
-pub mod Bits
-pub mod Passes

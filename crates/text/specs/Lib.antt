@@ -1,8 +1,2 @@
--- Order texts and listings.
+-- Lines of text.
 pub mod Lines
-pub mod OrderText
-pub mod Reading
-pub mod Parsing
-pub mod Found
-pub mod Listing
-pub mod Written

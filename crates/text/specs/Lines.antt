@@ -1,5 +1,5 @@
 -- How are numbers and rows written as lines of bytes? Assumes nothing.
-use mathlib.Core.Bool.{true, false}
+use mathlib.Core.Bool.{cond}
 use mathlib.Core.List.{List, [], _∷_, _++_}
 use Prim.Native.Nat.{ℕ, zero, suc, _+_, _/_, _%_}
 use lib.Dec.{ltb}
@@ -9,13 +9,13 @@ abbrev pub line : List ℕ → List ℕ
 line t = t ++ (10 ∷ [])
 
 -- the digits of v, at most k of them, with no leading zero unless v is 0
-unfoldable pub digits : ℕ → ℕ → List ℕ
-digits zero v = []
-digits (suc k) v = elim (ltb v 10) [ true ↦ (48 + v) ∷ [] | false ↦ digits k (v / 10) ++ ((48 + v % 10) ∷ []) ]
+unfoldable pub digitsIn : ℕ → ℕ → List ℕ
+digitsIn zero v = []
+digitsIn (suc k) v = cond (ltb v 10) ((48 + v) ∷ []) (digitsIn k (v / 10) ++ ((48 + v % 10) ∷ []))
 
 -- a number of up to 64 bits in decimal: it has at most 20 digits
 unfoldable pub decimal : ℕ → List ℕ
-decimal v = digits 20 v
+decimal v = digitsIn 20 v
 
 -- n bits of v as characters 0 or 1, bit 0 first
 unfoldable pub bits : ℕ → ℕ → List ℕ

@@ -1,8 +1,9 @@
 // Reads the order texts that the arguments name, and writes for each its name and what `list` would write.
 use libc::STDOUT_FILENO;
+use listing::listing_size;
+use listing::write_listing;
 use plan::make::make_plan;
-use text::listing::write_listing;
-use text::read::read_order;
+use reading::read_order;
 
 // As in `list`.
 const TEXT: usize = 4096;
@@ -20,6 +21,10 @@ fn answer(text: &[u8]) {
     let planned = make_plan(read.order);
     let mut room = [0u8; ROOM];
     let k = write_listing(planned.plan, &mut room);
+    if k != listing_size(planned.plan) {
+        io::write_all(STDOUT_FILENO, b"listing of another size\n");
+        return;
+    }
     if k <= ROOM {
         io::write_all(STDOUT_FILENO, &room[0..k]);
     }

@@ -9,16 +9,16 @@ use order::address::source_of;
 use order::address::target_of;
 
 // G of the trial orders.
-pub fn g() -> Geometry {
+pub(crate) fn g() -> Geometry {
     geometry(4, 1, 1, 2, 8)
 }
 
-pub fn geometry(n: u32, b: u32, d: u32, m: u32, r: u32) -> Geometry {
+pub(crate) fn geometry(n: u32, b: u32, d: u32, m: u32, r: u32) -> Geometry {
     Geometry { n, b, d, m, r }
 }
 
 // An order with four rows.
-pub fn order(g: Geometry, r0: u32, r1: u32, r2: u32, r3: u32, c: u32) -> Order {
+pub(crate) fn order(g: Geometry, r0: u32, r1: u32, r2: u32, r3: u32, c: u32) -> Order {
     let mut rows = [0u32; ROWS];
     rows[0] = r0;
     rows[1] = r1;
@@ -31,23 +31,23 @@ pub fn order(g: Geometry, r0: u32, r1: u32, r2: u32, r3: u32, c: u32) -> Order {
     }
 }
 
-pub fn reversal() -> Order {
+pub(crate) fn reversal() -> Order {
     order(g(), 8, 4, 2, 1, 0)
 }
 
-pub fn identity(c: u32) -> Order {
+pub(crate) fn identity(c: u32) -> Order {
     order(g(), 1, 2, 4, 8, c)
 }
 
-pub fn gray() -> Order {
+pub(crate) fn gray() -> Order {
     order(g(), 3, 6, 12, 8, 0)
 }
 
-pub fn exchange() -> Order {
+pub(crate) fn exchange() -> Order {
     order(g(), 4, 8, 1, 2, 0)
 }
 
-pub fn small() -> Order {
+pub(crate) fn small() -> Order {
     order(geometry(2, 0, 0, 1, 8), 2, 1, 0, 0, 0)
 }
 
@@ -84,7 +84,7 @@ fn judged(asked: &[u8], o: Order) {
     say::one(asked, order::judge(o) as u64);
 }
 
-pub fn geometries() {
+pub(crate) fn geometries() {
     judged(b"G taken", identity(0));
     judged(b"b = m", order(geometry(4, 2, 0, 2, 8), 1, 2, 4, 8, 0));
     judged(b"m = n", order(geometry(4, 1, 1, 4, 8), 1, 2, 4, 8, 0));
@@ -109,7 +109,7 @@ pub fn geometries() {
     );
 }
 
-pub fn forms() {
+pub(crate) fn forms() {
     judged(b"G, a row of 16", order(g(), 16, 2, 4, 8, 0));
     judged(b"G, c = 16", identity(16));
     judged(
@@ -132,7 +132,7 @@ pub fn forms() {
     judged(b"G, rows 3, 5, 6, 8", order(g(), 3, 5, 6, 8, 0));
 }
 
-pub fn forwards() {
+pub(crate) fn forwards() {
     forward(b"reversal, 1", reversal(), 1);
     forward(b"reversal, 3", reversal(), 3);
     forward(b"reversal, 6", reversal(), 6);
@@ -152,7 +152,7 @@ pub fn forwards() {
     forward(b"n = 24, address N", largest(24, 8), 16777216);
 }
 
-pub fn backwards() {
+pub(crate) fn backwards() {
     backward(b"reversal, back from 8", reversal(), 8);
     backward(b"reversal, back from 12", reversal(), 12);
     backward(b"reversal, back from 6", reversal(), 6);

@@ -4,11 +4,11 @@ use crate::say;
 use bank::Step;
 use order::Order;
 use plan::make::make_plan;
-use plan::running::can_run;
-use plan::running::result_area;
-use plan::running::total_steps;
 use planning::Plan;
 use planning::state::State;
+use running::can_run;
+use running::result_area;
+use running::total_steps;
 
 // Number, passes, steps and result area.
 fn planned(asked: &[u8], o: Order) {
@@ -44,7 +44,7 @@ fn reversal() -> Plan {
     p.plan
 }
 
-pub fn made() {
+pub(crate) fn made() {
     planned(b"reversal", orders::reversal());
     planned(b"identity, c = 15", orders::identity(15));
     planned(b"identity", orders::identity(0));
@@ -73,7 +73,7 @@ pub fn made() {
 }
 
 // One plan for each condition of number 7.
-pub fn judged() {
+pub(crate) fn judged() {
     runs(b"reversal, next 0", reversal(), 0);
     runs(b"reversal, next 24", reversal(), 24);
     runs(b"reversal, next 25", reversal(), 25);
@@ -99,7 +99,7 @@ pub fn judged() {
     runs(b"a complement before the last pass", p, 0);
 }
 
-pub fn judged_more() {
+pub(crate) fn judged_more() {
     let mut p = reversal();
     p.rows[3 * bank::ROWS] = 1;
     runs(b"a row of an unused pass", p, 0);
@@ -118,7 +118,7 @@ pub fn judged_more() {
 }
 
 // The reversal as one pass: nonsingular, and it spills.
-pub fn spilling() {
+pub(crate) fn spilling() {
     let mut p = plan::store::empty_plan();
     p.geometry = orders::g();
     p.count = 1;

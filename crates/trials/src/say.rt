@@ -16,25 +16,25 @@ fn end() {
     io::write_all(STDOUT_FILENO, b"\n");
 }
 
-pub fn one(asked: &[u8], number: u64) {
+pub(crate) fn one(asked: &[u8], number: u64) {
     first(asked, number);
     end();
 }
 
-pub fn two(asked: &[u8], number: u64, value: u64) {
+pub(crate) fn two(asked: &[u8], number: u64, value: u64) {
     first(asked, number);
     further(value);
     end();
 }
 
-pub fn three(asked: &[u8], a: u64, b: u64, c: u64) {
+pub(crate) fn three(asked: &[u8], a: u64, b: u64, c: u64) {
     first(asked, a);
     further(b);
     further(c);
     end();
 }
 
-pub fn four(asked: &[u8], a: u64, b: u64, c: u64, d: u64) {
+pub(crate) fn four(asked: &[u8], a: u64, b: u64, c: u64, d: u64) {
     first(asked, a);
     further(b);
     further(c);

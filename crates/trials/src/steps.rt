@@ -9,10 +9,10 @@ use mover::step::step;
 use order::Order;
 use order::address::target_of;
 use plan::make::make_plan;
-use plan::running::result_area;
-use plan::running::total_steps;
 use planning::Plan;
 use planning::state::State;
+use running::result_area;
+use running::total_steps;
 
 // The bytes of an area and of the memory in G, where a record has 8.
 const AREA: usize = 128;
@@ -125,7 +125,7 @@ fn wrongly_written(area: &[u8]) -> u64 {
     count
 }
 
-pub fn one_write() {
+pub(crate) fn one_write() {
     let p = reversal();
     let mut area0 = [0u8; AREA];
     let mut area1 = [0u8; AREA];
@@ -155,21 +155,21 @@ pub fn one_write() {
     say::one(b"bytes of memory that are wrong", changed(&memory, 50));
 }
 
-// The buffers of a line in G, and its state.
-struct Line {
+// What there is between two calls in G: the buffers, and the state.
+struct Moment {
     area0: [u8; AREA],
     area1: [u8; AREA],
     memory: [u8; MEMORY],
     state: State,
 }
 
-// The line after a step that is asked for.
-fn asks(asked: &[u8], p: Plan, l: Line, k: u64) -> Line {
+// The moment after a step that is asked for.
+fn asks(asked: &[u8], p: Plan, l: Moment, k: u64) -> Moment {
     let mut area0 = l.area0;
     let mut area1 = l.area1;
     let mut memory = l.memory;
     let state = ask(asked, p, l.state, k, &mut area0, &mut area1, &mut memory);
-    Line {
+    Moment {
         area0,
         area1,
         memory,
@@ -177,8 +177,8 @@ fn asks(asked: &[u8], p: Plan, l: Line, k: u64) -> Line {
     }
 }
 
-// The line after a run.
-fn goes(asked: &[u8], p: Plan, l: Line, allowance: u64) -> Line {
+// The moment after a run.
+fn goes(asked: &[u8], p: Plan, l: Moment, allowance: u64) -> Moment {
     let mut area0 = l.area0;
     let mut area1 = l.area1;
     let mut memory = l.memory;
@@ -191,7 +191,7 @@ fn goes(asked: &[u8], p: Plan, l: Line, allowance: u64) -> Line {
         &mut area1,
         &mut memory,
     );
-    Line {
+    Moment {
         area0,
         area1,
         memory,
@@ -200,9 +200,9 @@ fn goes(asked: &[u8], p: Plan, l: Line, allowance: u64) -> Line {
 }
 
 // The numbers of steps and runs, in and out of turn, from the first step to past the last.
-pub fn in_turn() {
+pub(crate) fn in_turn() {
     let p = reversal();
-    let mut l = Line {
+    let mut l = Moment {
         area0: [0u8; AREA],
         area1: [0u8; AREA],
         memory: [0u8; MEMORY],
@@ -257,7 +257,7 @@ fn lent(asked: &[u8], p: Plan, k: u64, l0: usize, l1: usize, lm: usize) {
 }
 
 // Wrong lengths, and the order of the checks.
-pub fn lengths() {
+pub(crate) fn lengths() {
     let p = reversal();
     lent(b"area 0 short", p, 0, AREA - 1, AREA, MEMORY);
     lent(b"area 0 long", p, 0, AREA + 1, AREA, MEMORY);
@@ -352,7 +352,7 @@ fn whole(asked: &[u8], o: Order, n: u64, bytes: usize, room: usize) {
     }
 }
 
-pub fn wholes() {
+pub(crate) fn wholes() {
     whole(b"reversal, whole", orders::reversal(), 16, AREA, MEMORY);
     whole(
         b"identity, c = 15, whole",

@@ -9,9 +9,6 @@ use Rattle.bank.proofs.in_limits.Tie as tie
 returns : tie.Need-returns
 returns c = sym (outside _ (λ k. omega arith))
 
-cast-if2 : tie.Need-cast-if2
-cast-if2 c = search needs
-
 returns-2 : tie.Need-returns-2
 returns-2 c = sym (outside _ (λ k. omega arith))
 
@@ -20,9 +17,6 @@ returns-3 c = sym (outside _ (λ k. omega arith))
 
 returns-4 : tie.Need-returns-4
 returns-4 c = sym (outside _ (λ k. omega arith))
-
-sub-if5 : tie.Need-sub-if5
-sub-if5 c = search needs
 
 returns-5 : tie.Need-returns-5
 returns-5 c = sym (outside _ (λ k. omega arith))
@@ -47,15 +41,4 @@ returns-8 c =
 
 pub in-limits-spec : {M : Type 1} → statement M
 in-limits-spec =
-    tie.close
-    (tie.spec
-    returns
-    cast-if2
-    returns-2
-    returns-3
-    returns-4
-    sub-if5
-    returns-5
-    returns-6
-    returns-7
-    returns-8)
+    tie.close (tie.spec returns (λ c. search needs) returns-2 returns-3 returns-4 (λ c. search needs) returns-5 returns-6 returns-7 returns-8)

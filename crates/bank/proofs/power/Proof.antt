@@ -9,11 +9,8 @@ use lib.Pow.{shl-exact}
 use Rattle.bank.proofs.power.Statement.{statement}
 use Rattle.bank.proofs.power.Tie as tie
 
-shl-result : tie.Need-shl-result
-shl-result c = search needs
-
 returns : tie.Need-returns
 returns c = shl-exact 1 (c .args .k) 64 (lit< tt) (omega arith) ∙ one-mul (2 ^ c .args .k)
 
 pub power-spec : {M : Type 1} → statement M
-power-spec = tie.close (tie.spec shl-result returns)
+power-spec = tie.close (tie.spec (λ c. search needs) returns)

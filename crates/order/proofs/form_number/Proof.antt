@@ -9,23 +9,18 @@ use Rattle.order.proofs.Judged.{form-outside, form-inside}
 use Rattle.order.proofs.form_number.Statement.{statement}
 use Rattle.order.proofs.form_number.Tie as tie
 
-in-limits-requires : tie.Need-in-limits-requires
-in-limits-requires c κs = search needs
-
 returns : tie.Need-returns
 returns c = sym (form-outside (c .before .before .args .order) (sym (c .before .in-limits .ensures) ∙ not-true _ (c .if1 .taken)))
 
 bad-form-requires : tie.Need-bad-form-requires
 bad-form-requires c κs = limits→allowed _ (sym (c .before .in-limits .ensures) ∙ not-false _ (c .if1 .left)) .n-high
 
-refuse-requires : tie.Need-refuse-requires
-refuse-requires c κs = search needs
-
 returns-2 : tie.Need-returns-2
 returns-2 c =
+    let i = c .before .before in
     c .refuse .ensures
     ∙ ap (λ (t : Bool). refuse t 2 0) (c .before .bad-form .ensures)
-    ∙ sym (form-inside (c .before .before .before .before .args .order) (sym (c .before .before .before .in-limits .ensures) ∙ not-false _ (c .before .before .if1 .left)))
+    ∙ sym (form-inside (i .before .before .args .order) (sym (i .before .in-limits .ensures) ∙ not-false _ (i .if1 .left)))
 
 pub form-number-spec : {M : Type 1} → statement M
-form-number-spec = tie.close (tie.spec in-limits-requires returns bad-form-requires refuse-requires returns-2)
+form-number-spec = tie.close (tie.spec (λ c κs. search needs) returns bad-form-requires (λ c κs. search needs) returns-2)

@@ -8,28 +8,22 @@ use Rattle.order.proofs.Judged.{form-none, judgement-form, judgement-fo
 use Rattle.order.proofs.judge.Statement.{statement}
 use Rattle.order.proofs.judge.Tie as tie
 
-form-number-requires : tie.Need-form-number-requires
-form-number-requires c κs = search needs
-
 returns : tie.Need-returns
 returns c =
     let e = c .before .form-number .ensures in
     e ∙ sym (judgement-form (c .before .before .args .order) (λ z. c .if1 .taken (e ∙ z)))
 
-cast-n : tie.Need-cast-n
-cast-n c = search needs
-
 is-singular-requires : tie.Need-is-singular-requires
-is-singular-requires c κs = limits→allowed _ (form-none (c .before .before .before .before .before .args .order) (sym (c .before .before .before .before .form-number .ensures) ∙ c .before .before .before .if1 .left) .0) .n-high
-
-refuse-requires : tie.Need-refuse-requires
-refuse-requires c κs = search needs
+is-singular-requires c κs =
+    let i = c .before .before .before in
+    limits→allowed _ (form-none _ (sym (i .before .form-number .ensures) ∙ i .if1 .left) .0) .n-high
 
 returns-2 : tie.Need-returns-2
 returns-2 c =
+    let i = c .before .before .before .before .before in
     c .refuse .ensures
     ∙ ap (λ (t : Bool). refuse t 3 0) (c .before .is-singular .ensures)
-    ∙ sym (judgement-formed (c .before .before .before .before .before .before .before .args .order) (sym (c .before .before .before .before .before .before .form-number .ensures) ∙ c .before .before .before .before .before .if1 .left))
+    ∙ sym (judgement-formed _ (sym (i .before .form-number .ensures) ∙ i .if1 .left))
 
 pub judge-spec : {M : Type 1} → statement M
-judge-spec = tie.close (tie.spec form-number-requires returns cast-n is-singular-requires refuse-requires returns-2)
+judge-spec = tie.close (tie.spec (λ c κs. search needs) returns (λ c. search needs) is-singular-requires (λ c κs. search needs) returns-2)

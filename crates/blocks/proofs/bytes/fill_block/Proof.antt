@@ -3,13 +3,14 @@ use mathlib.Core.Path.{_≡_, ap, sym, subst, _∙_}
 use Prim.Native.Nat.{ℕ, _+_, _-_, _*_, _^_, _≤_, _<_, zero-le}
 use native.Mathlib.Omega.{arith}
 use native.Mathlib.Nat.{zero-mul, suc-mul}
-use lib.Bits.{bitXor, xor-lt}
+use lib.Bits.{xor-lt}
 use lib.ListN.{length, length-take, length-drop}
 use Rattle.algebra.specs.Vector.{WORD}
-use Rattle.blocks.proofs.Filled.{filled, filled-all, filled-none, filled-turn, length-filled}
-use Rattle.moving.proofs.Bytes.{share}
+use Rattle.blocks.proofs.Filled.{filled, filled-all, filled-none, filled-once}
+use Rattle.algebra.proofs.Digits.{share}
+use Rattle.moving.proofs.Bytes.{length-copied}
 use Rattle.blocks.proofs.Places.{place-next, place-zero}
-use Rattle.blocks.specs.Places.{flips, placeBy}
+use Rattle.blocks.specs.Places.{placeBy}
 use Rattle.blocks.proofs.bytes.fill_block.Statement.{statement}
 use Rattle.blocks.proofs.bytes.fill_block.Tie as tie
 
@@ -23,17 +24,19 @@ abbrev μ-loop : tie.MeasureT-loop
 abbrev start : tie.In-loop Inv-loop μ-loop → tie.Start Inv-loop μ-loop
 start c = c .before .before .before .before .before
 
--- in a turn there is room for one record more
+-- the block is as long as it was, and has room for one record more
+same : (c : tie.At-loop Inv-loop μ-loop) → length (c .loop .block) ≡ length (c .before .before .before .before .args .block .now)
+same c = ap length (c .loop .inv .2) ∙ length-copied _ _ _ _ _
+
 fit : (c : tie.In-loop Inv-loop μ-loop) → c .before .loop .o + start c .args .r ≤ length (start c .args .block .now)
 fit c = omega (arith, start c .pre .0 .1, share (c .before .loop .k) (start c .args .count) (start c .args .r) (c .loop-test .taken))
 
-same : (c : tie.In-loop Inv-loop μ-loop) → length (c .before .loop .block) ≡ length (start c .args .block .now)
-same c = ap length (c .before .loop .inv .2) ∙ length-filled _ _ _ _ _
-
 -- the record's place is within memory
-in-memory : (c : tie.In-loop Inv-loop μ-loop) → c .before .loop .place * start c .args .r + start c .args .r ≤ length (start c .args .memory .now)
+in-memory : (c : tie.In-loop Inv-loop μ-loop)
+    → c .before .loop .place * start c .args .r + start c .args .r ≤ length (start c .args .memory .now)
 in-memory c =
-    subst (λ (n : ℕ). n * start c .args .r + start c .args .r ≤ length (start c .args .memory .now)) (sym (c .before .loop .inv .4)) (start c .pre .1 (c .before .loop .k) (c .loop-test .taken))
+    subst (λ (n : ℕ). n * start c .args .r + start c .args .r ≤ length (start c .args .memory .now)) (sym (c .before .loop .inv .4))
+    (start c .pre .1 (c .before .loop .k) (c .loop-test .taken))
 
 loop-holds : tie.Need-loop-holds Inv-loop μ-loop
 loop-holds c =
@@ -46,57 +49,26 @@ loop-holds c =
       place-zero (x .base) (x .columns .now),
     )
 
-cast-s : tie.Need-cast-s Inv-loop μ-loop
-cast-s c = omega arith
-
-mul-s : tie.Need-mul-s Inv-loop μ-loop
-mul-s c = omega (arith, in-memory c, start c .good)
-
-add-e : tie.Need-add-e Inv-loop μ-loop
-add-e c = omega (arith, in-memory c, start c .good)
-
-sub-copy-part : tie.Need-sub-copy-part Inv-loop μ-loop
-sub-copy-part c = omega arith
-
-part-copy-part-start : tie.Need-part-copy-part-start Inv-loop μ-loop
-part-copy-part-start c = omega arith
-
-part-copy-part-end : tie.Need-part-copy-part-end Inv-loop μ-loop
-part-copy-part-end c = in-memory (c .before)
-
 copy-part-requires : tie.Need-copy-part-requires Inv-loop μ-loop
 copy-part-requires c κs =
-    let turn = c .before .before in
-    simp (length-take, length-drop) (omega (arith, fit turn, same turn))
-
-flip-requires : tie.Need-flip-requires Inv-loop μ-loop
-flip-requires c κs = tt
+    simp (length-take, length-drop) (omega (arith, fit (c .before .before), same (c .before .before .before)))
 
 add-o : tie.Need-add-o Inv-loop μ-loop
-add-o c = omega (arith, fit (c .before .before .before .before .before .before), start (c .before .before .before .before .before .before) .good)
-
-add-k : tie.Need-add-k Inv-loop μ-loop
-add-k c = omega (arith, start (c .before .before .before .before .before .before) .fits)
-
-loop-less : tie.Need-loop-less Inv-loop μ-loop
-loop-less c = omega arith
+add-o c = let tier = c .before .before .before .before .before .before in omega (arith, fit tier, start tier .good)
 
 loop-again : tie.Need-loop-again Inv-loop μ-loop
 loop-again c =
-    let turn = c .before .before .before .before .before .before in
-    let l = turn .before .loop in
-    let x = start turn .args in (
+    let tier = c .before .before .before .before .before .before in
+    let l = tier .before .loop in
+    let x = start tier .args in (
       omega arith,
       ap (λ (n : ℕ). n + x .r) (l .inv .1) ∙ sym (suc-mul (l .k) (x .r)) ∙ ap (λ (n : ℕ). n * x .r) (omega arith),
       c .before .before .before .copy-part .ensures
-          ∙ filled-turn (placeBy (x .base) (x .columns .now)) (x .r) (start turn .pre .0 .0) (x .memory .now) (x .block .now) (l .block) (l .k) (l .o) (l .place * x .r)
-          (l .inv .1) (ap (λ (n : ℕ). n * x .r) (l .inv .4)) (l .inv .2) (in-memory turn),
+          ∙ filled-once (placeBy (x .base) (x .columns .now)) (x .r) (start tier .pre .0 .0) (x .memory .now) (x .block .now) (l .block) (l .k) (l .o)
+          (l .place * x .r) (l .inv .1) (ap (λ (n : ℕ). n * x .r) (l .inv .4)) (l .inv .2) (in-memory tier),
       xor-lt WORD (l .place) (c .flip .result) (l .inv .3) (omega (arith, c .flip .ok)),
-      ap (bitXor (l .place)) (c .flip .ensures) ∙ ap (λ (n : ℕ). bitXor n (flips (x .columns .now) (l .k))) (l .inv .4) ∙ place-next (x .base) (x .columns .now) (l .k),
+      rw (c .flip .ensures, l .inv .4) (place-next (x .base) (x .columns .now) (l .k)),
     )
-
-same-length : tie.Need-same-length Inv-loop μ-loop
-same-length c = ap length (c .before .loop .inv .2) ∙ length-filled _ _ _ _ _
 
 returns : tie.Need-returns Inv-loop μ-loop
 returns c =
@@ -108,22 +80,7 @@ returns c =
 
 pub fill-block-spec : {M : Type 1} → statement M
 fill-block-spec =
-    tie.close
-    (tie.spec
-    Inv-loop
-    μ-loop
-    loop-holds
-    cast-s
-    mul-s
-    add-e
-    sub-copy-part
-    part-copy-part-start
-    part-copy-part-end
-    copy-part-requires
-    flip-requires
-    add-o
-    add-k
-    loop-less
-    loop-again
-    same-length
-    returns)
+    tie.close (tie.spec Inv-loop μ-loop loop-holds (λ c. omega arith) (λ c. omega (arith, in-memory c, start c .good))
+    (λ c. omega (arith, in-memory c, start c .good)) (λ c. omega arith) (λ c. omega arith) (λ c. in-memory (c .before)) copy-part-requires (λ c κs. tt)
+    add-o (λ c. omega (arith, start (c .before .before .before .before .before .before) .fits)) (λ c. omega arith) loop-again
+    (λ c. same (c .before)) returns)

@@ -16,25 +16,10 @@ Inv-loop columns k s₀ x₀ j₀ s x j = bitXor s (flips (drop j columns) x) �
 abbrev μ-loop : tie.MeasureT-loop
 μ-loop columns k s₀ x₀ j₀ s x j = length columns - j
 
-loop-holds : tie.Need-loop-holds Inv-loop μ-loop
-loop-holds c = refl
-
-mul-s : tie.Need-mul-s Inv-loop μ-loop
-mul-s c = search needs
-
-shared-slice-read-s : tie.Need-shared-slice-read-s Inv-loop μ-loop
-shared-slice-read-s c = omega arith
-
 returns : tie.Need-returns Inv-loop μ-loop
 returns c =
     let l = c .before .before .before .loop in
     walk-stop (c .before .before .before .before .args .columns .now) (l .s) (l .x) (l .j) (c .before .before .loop-test .taken) (c .if1 .taken) ∙ l .inv
-
-add-j : tie.Need-add-j Inv-loop μ-loop
-add-j c = omega arith
-
-loop-less : tie.Need-loop-less Inv-loop μ-loop
-loop-less c = omega arith
 
 loop-again : tie.Need-loop-again Inv-loop μ-loop
 loop-again c =
@@ -46,15 +31,5 @@ returns-2 c = sym (walk-end _ _ (c .before .loop .x) _ (c .loop-test .left)) ∙
 
 pub flip-spec : {M : Type 1} → statement M
 flip-spec =
-    tie.close
-    (tie.spec
-    Inv-loop
-    μ-loop
-    loop-holds
-    mul-s
-    shared-slice-read-s
-    returns
-    add-j
-    loop-less
-    loop-again
+    tie.close (tie.spec Inv-loop μ-loop (λ c. refl) (λ c. search needs) (λ c. omega arith) returns (λ c. omega arith) (λ c. omega arith) loop-again
     returns-2)

@@ -1,14 +1,14 @@
 -- `blocks::moves::write_drives` meets its contract: the drives below q have their block, and block and place are drive q's. Assumes nothing.
-use mathlib.Core.Path.{_≡_, ap, sym, subst, _∙_}
-use Prim.Native.Nat.{ℕ, _+_, _-_, _*_, _%_, _^_, _≤_, _<_, zero-le}
+use mathlib.Core.Path.{_≡_, ap, _∙_}
+use Prim.Native.Nat.{ℕ, _-_, _%_, _^_, _≤_, _<_, zero-le}
 use native.Mathlib.Omega.{arith}
-use lib.Bits.{bitXor, xor-lt}
+use lib.Bits.{xor-lt}
 use lib.ListN.{length}
 use Rattle.algebra.specs.Vector.{WORD}
 use Rattle.moving.proofs.Bytes.{length-copied}
-use Rattle.blocks.proofs.Drives.{drivesDone, drives-all, drives-none, drives-turn}
+use Rattle.blocks.proofs.Drives.{drivesDone, drives-all, drives-none, drives-once}
 use Rattle.blocks.proofs.Places.{place-next, place-zero}
-use Rattle.blocks.specs.Places.{flips, placeBy}
+use Rattle.blocks.specs.Places.{placeBy}
 use Rattle.blocks.proofs.moves.write_drives.Statement.{statement}
 use Rattle.blocks.proofs.moves.write_drives.Tie as tie
 
@@ -23,15 +23,16 @@ abbrev μ-loop : tie.MeasureT-loop
 abbrev start : tie.In-loop Inv-loop μ-loop → tie.Start Inv-loop μ-loop
 start c = c .before .before .before .before .before .before .before
 
-same : (c : tie.In-loop Inv-loop μ-loop) → length (c .before .loop .area) ≡ length (start c .args .area .now)
-same c = ap length (c .before .loop .inv .1) ∙ length-copied _ _ _ _ _
+same : (c : tie.At-loop Inv-loop μ-loop) → length (c .loop .area) ≡ length (c .before .before .before .before .before .before .args .area .now)
+same c = ap length (c .loop .inv .1) ∙ length-copied _ _ _ _ _
 
 loop-holds : tie.Need-loop-holds Inv-loop μ-loop
 loop-holds c =
     let s = c .before .before .before .before .before in
     let x = s .args in (
       zero-le,
-      drives-none (placeBy (x .first .0) (x .blocks .now)) (x .drives) (placeBy (x .place) (x .places .now)) (x .columns .now) (x .r) (x .count) (x .memory .now) (x .area .now),
+      drives-none (placeBy (x .first .0) (x .blocks .now)) (x .drives) (placeBy (x .place) (x .places .now)) (x .columns .now) (x .r) (x .count)
+          (x .memory .now) (x .area .now),
       omega (arith, s .good),
       place-zero (x .first .0) (x .blocks .now),
       s .fits .place .fits,
@@ -40,51 +41,32 @@ loop-holds c =
 
 write-block-requires : tie.Need-write-block-requires Inv-loop μ-loop
 write-block-requires c κs =
-    let turn = c .before in
-    let l = turn .before .loop in
-    let s = start turn in
-    let x = s .args in (
-      (s .pre .0 .0, rw (l .inv .3, same turn) (s .pre .1 .1 .0 (l .q) (turn .loop-test .taken))),
-      subst (λ (b : ℕ). (k : ℕ) → k < x .count → placeBy b (x .columns .now) k * x .r + x .r ≤ length (x .memory .now)) (sym (l .inv .5)) (s .pre .1 .1 .1 (l .q) (turn .loop-test .taken)),
+    let tier = c .before in
+    let l = tier .before .loop in
+    let s = start tier in (
+      (s .pre .0 .0, rw (l .inv .3, same (tier .before)) (s .pre .1 .1 .0 (l .q) (tier .loop-test .taken))),
+      rw (l .inv .5) (s .pre .1 .1 .1 (l .q) (tier .loop-test .taken)),
     )
-
-flip-requires : tie.Need-flip-requires Inv-loop μ-loop
-flip-requires c κs = tt
-
-flip-requires-2 : tie.Need-flip-requires-2 Inv-loop μ-loop
-flip-requires-2 c κs = tt
-
-cast-y : tie.Need-cast-y Inv-loop μ-loop
-cast-y c = omega (arith, c .flip2 .ok)
-
-add-q : tie.Need-add-q Inv-loop μ-loop
-add-q c = omega arith
-
-loop-less : tie.Need-loop-less Inv-loop μ-loop
-loop-less c = omega arith
 
 loop-again : tie.Need-loop-again Inv-loop μ-loop
 loop-again c =
     let two = c .before in
     let one = two .before in
-    let turn = one .before .before .before .before .before in
-    let l = turn .before .loop in
-    let s = start turn in
+    let tier = one .before .before .before .before .before in
+    let l = tier .before .loop in
+    let s = start tier in
     let x = s .args in
     let Y = placeBy (x .first .0) (x .blocks .now) in
     let P = placeBy (x .place) (x .places .now) in (
       omega arith,
       one .before .before .before .write-block .ensures
-          ∙ drives-turn Y (x .drives) P (x .columns .now) (x .r) (x .count) (x .memory .now) (x .area .now) (l .area) (l .q) (l .block .0) (l .p)
-          (l .inv .1) (l .inv .3) (ap (λ (k : ℕ). k % x .drives) (l .inv .3) ∙ s .pre .1 .0 (l .q) (turn .loop-test .taken)) (l .inv .5),
+          ∙ drives-once Y (x .drives) P (x .columns .now) (x .r) (x .count) (x .memory .now) (x .area .now) (l .area) (l .q) (l .block .0) (l .p)
+          (l .inv .1) (l .inv .3) (ap (λ (k : ℕ). k % x .drives) (l .inv .3) ∙ s .pre .1 .0 (l .q) (tier .loop-test .taken)) (l .inv .5),
       xor-lt 64 (l .block .0) (two .flip2 .result) (l .inv .2) (omega (arith, two .flip2 .ok)),
-      ap (bitXor (l .block .0)) (two .flip2 .ensures) ∙ ap (λ (n : ℕ). bitXor n (flips (x .blocks .now) (l .q))) (l .inv .3) ∙ place-next (x .first .0) (x .blocks .now) (l .q),
+      rw (two .flip2 .ensures, l .inv .3) (place-next (x .first .0) (x .blocks .now) (l .q)),
       xor-lt WORD (l .p) (one .flip .result) (l .inv .4) (omega (arith, one .flip .ok)),
-      ap (bitXor (l .p)) (one .flip .ensures) ∙ ap (λ (n : ℕ). bitXor n (flips (x .places .now) (l .q))) (l .inv .5) ∙ place-next (x .place) (x .places .now) (l .q),
+      rw (one .flip .ensures, l .inv .5) (place-next (x .place) (x .places .now) (l .q)),
     )
-
-same-length : tie.Need-same-length Inv-loop μ-loop
-same-length c = ap length (c .before .loop .inv .1) ∙ length-copied _ _ _ _ _
 
 returns : tie.Need-returns Inv-loop μ-loop
 returns c =
@@ -98,17 +80,5 @@ returns c =
 
 pub write-drives-spec : {M : Type 1} → statement M
 write-drives-spec =
-    tie.close
-    (tie.spec
-    Inv-loop
-    μ-loop
-    loop-holds
-    write-block-requires
-    flip-requires
-    flip-requires-2
-    cast-y
-    add-q
-    loop-less
-    loop-again
-    same-length
-    returns)
+    tie.close (tie.spec Inv-loop μ-loop loop-holds write-block-requires (λ c κs. tt) (λ c κs. tt) (λ c. omega (arith, c .flip2 .ok)) (λ c. omega arith)
+    (λ c. omega arith) loop-again (λ c. same (c .before)) returns)

@@ -4,15 +4,12 @@ use Prim.Native.Nat.{ℕ}
 use native.Mathlib.Nat.{sub-zero}
 use lib.ListN.{take}
 use borrow.Author.Needs.{needs}
-use Rattle.algebra.specs.Matrix.{apply}
+use Rattle.algebra.specs.Matrix.{applied}
 use Rattle.matrix.proofs.rows.apply.Statement.{statement}
 use Rattle.matrix.proofs.rows.apply.Tie as tie
 
-apply-part-requires : tie.Need-apply-part-requires
-apply-part-requires c κs = search needs
-
 returns : tie.Need-returns
-returns c = c .apply-part .ensures ∙ ap (λ (k : ℕ). apply (take k (c .before .args .rows .now)) (c .before .args .x)) (sub-zero (c .before .args .n))
+returns c = c .apply-part .ensures ∙ ap (λ (k : ℕ). applied (take k (c .before .args .rows .now)) (c .before .args .x)) (sub-zero (c .before .args .n))
 
 pub apply-spec : {M : Type 1} → statement M
-apply-spec = tie.close (tie.spec apply-part-requires returns)
+apply-spec = tie.close (tie.spec (λ c κs. search needs) returns)

@@ -16,53 +16,22 @@ Inv-loop n rows₀ i₀ rows i = (i ≤ n) × (rows ≡ filled ROWS (identity n)
 abbrev μ-loop : tie.MeasureT-loop
 μ-loop n rows₀ i₀ rows i = n - i
 
-loop-holds : tie.Need-loop-holds Inv-loop μ-loop
-loop-holds c = (search needs, refl)
-
-cast-power : tie.Need-cast-power Inv-loop μ-loop
-cast-power c = search needs
-
-power-requires : tie.Need-power-requires Inv-loop μ-loop
-power-requires c κs = search needs
-
-mul-rows : tie.Need-mul-rows Inv-loop μ-loop
-mul-rows c = search needs
-
-array-write-rows : tie.Need-array-write-rows Inv-loop μ-loop
-array-write-rows c = search needs
-
-add-i : tie.Need-add-i Inv-loop μ-loop
-add-i c = search needs
-
-loop-less : tie.Need-loop-less Inv-loop μ-loop
-loop-less c = search needs
-
 loop-again : tie.Need-loop-again Inv-loop μ-loop
 loop-again c =
     let n = c .before .before .before .args .n in
-    let l = c .before .before .loop in (
-      search needs,
-      filled-next ROWS (identity n) (omega (arith, identity-length n)) (l .i) (c .power .result) (l .rows) (omega (arith, identity-length n)) (l .inv .1) (c .power .ensures ∙ sym (identity-at n (l .i) (search needs))),
-    )
+    let l = c .before .before .loop in
+    let long = identity-length n in
+    let row = c .power .ensures ∙ sym (identity-at n (l .i) (search needs)) in
+    (search needs, filled-next ROWS (identity n) (omega arith) (l .i) (c .power .result) (l .rows) (omega arith) (l .inv .1) row)
 
 returns : tie.Need-returns Inv-loop μ-loop
 returns c =
     let n = c .before .before .args .n in
     let l = c .before .loop in
-    filled-all ROWS (identity n) (omega (arith, identity-length n)) n (l .i) (l .rows) (identity-length n) (omega arith) (l .inv .1)
+    let long = identity-length n in
+    filled-all ROWS (identity n) (omega arith) n (l .i) (l .rows) long (omega arith) (l .inv .1)
 
 pub identity-spec : {M : Type 1} → statement M
 identity-spec =
-    tie.close
-    (tie.spec
-    Inv-loop
-    μ-loop
-    loop-holds
-    cast-power
-    power-requires
-    mul-rows
-    array-write-rows
-    add-i
-    loop-less
-    loop-again
-    returns)
+    tie.close (tie.spec Inv-loop μ-loop (λ c. (search needs, refl)) (λ c. search needs) (λ c κs. search needs) (λ c. search needs) (λ c. search needs)
+    (λ c. search needs) (λ c. search needs) loop-again returns)

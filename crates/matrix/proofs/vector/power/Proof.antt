@@ -10,11 +10,8 @@ use Rattle.algebra.specs.Vector.{WORD}
 use Rattle.matrix.proofs.vector.power.Statement.{statement}
 use Rattle.matrix.proofs.vector.power.Tie as tie
 
-shl-result : tie.Need-shl-result
-shl-result c = search needs
-
 returns : tie.Need-returns
 returns c = shl-exact 1 (c .args .j) WORD (lit< tt) (omega arith) ∙ one-mul (2 ^ (c .args .j))
 
 pub power-spec : {M : Type 1} → statement M
-power-spec = tie.close (tie.spec shl-result returns)
+power-spec = tie.close (tie.spec (λ c. search needs) returns)

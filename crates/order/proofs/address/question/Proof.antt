@@ -11,27 +11,22 @@ use Rattle.order.proofs.Asked.{number-order, number-taken}
 use Rattle.order.proofs.address.question.Statement.{statement}
 use Rattle.order.proofs.address.question.Tie as tie
 
-judge-requires : tie.Need-judge-requires
-judge-requires c κs = search needs
-
 returns : tie.Need-returns
 returns c =
     let e = c .before .judge .ensures in
-    e ∙ sym (number-order (c .before .before .args .order) (c .before .before .args .x .0) (λ z. c .if1 .taken (e ∙ z)))
+    e ∙ sym (number-order _ _ (λ z. c .if1 .taken (e ∙ z)))
 
 power-requires : tie.Need-power-requires
 power-requires c κs =
-    let ok = limits→allowed _ (judgement→accepted (c .before .before .before .args .order) (sym (c .before .before .judge .ensures) ∙ c .before .if1 .left) .inside) in omega (arith, ok .n-high)
-
-refuse-requires : tie.Need-refuse-requires
-refuse-requires c κs = search needs
+    let ok = limits→allowed _ (judgement→accepted _ (sym (c .before .before .judge .ensures) ∙ c .before .if1 .left) .inside) in
+    omega (arith, ok .n-high)
 
 returns-2 : tie.Need-returns-2
 returns-2 c =
-    let a = c .before .before .before .before .before .before .args in
+    let i = c .before .before .before .before in
     c .refuse .ensures
-    ∙ ap (λ (k : ℕ). refuse (leb k (a .x .0)) 10 0) (c .before .before .power .ensures)
-    ∙ sym (number-taken (a .order) (a .x .0) (sym (c .before .before .before .before .before .judge .ensures) ∙ c .before .before .before .before .if1 .left))
+    ∙ ap (λ (k : ℕ). refuse (leb k (i .before .before .args .x .0)) 10 0) (c .before .before .power .ensures)
+    ∙ sym (number-taken _ _ (sym (i .before .judge .ensures) ∙ i .if1 .left))
 
 pub question-spec : {M : Type 1} → statement M
-question-spec = tie.close (tie.spec judge-requires returns power-requires refuse-requires returns-2)
+question-spec = tie.close (tie.spec (λ c κs. search needs) returns power-requires (λ c κs. search needs) returns-2)

@@ -8,7 +8,7 @@ use borrow.Author.Needs.{needs}
 use borrow.Author.Tests.{le-leb, lt-leb, eq-eqb, ne-eqb}
 use lib.Dec.{eqb, leb}
 use lib.ListN.{getD, length}
-use Rattle.algebra.proofs.Search.{some-intro, none-intro}
+use Rattle.algebra.proofs.Search.{any-intro, none-intro}
 use Rattle.order.proofs.form.spare.Statement.{statement}
 use Rattle.order.proofs.form.spare.Tie as tie
 
@@ -23,23 +23,12 @@ loop-holds c =
     let n = c .args .n in
     (omega arith, omega arith, λ k h. ap (λ (t : Bool). t && not (eqb (getD (c .args .rows .now) k 0) 0)) (lt-leb n k h))
 
-mul-if1 : tie.Need-mul-if1 Inv-loop μ-loop
-mul-if1 c = search needs
-
-shared-slice-read-if1 : tie.Need-shared-slice-read-if1 Inv-loop μ-loop
-shared-slice-read-if1 c = search needs
-
 returns : tie.Need-returns Inv-loop μ-loop
 returns c =
     let a = c .before .before .before .before .args in
     let i = c .before .before .before .loop .i in
-    sym (some-intro (λ i. leb (a .n) i && not (eqb (getD (a .rows .now) i 0) 0)) (length (a .rows .now)) i (omega arith) (rw (le-leb (a .n) i (omega arith), ne-eqb _ _ (c .if1 .taken))))
-
-add-i : tie.Need-add-i Inv-loop μ-loop
-add-i c = search needs
-
-loop-less : tie.Need-loop-less Inv-loop μ-loop
-loop-less c = search needs
+    sym (any-intro (λ i. leb (a .n) i && not (eqb (getD (a .rows .now) i 0) 0)) (length (a .rows .now)) i (omega arith)
+    (rw (le-leb (a .n) i (omega arith), ne-eqb _ _ (c .if1 .taken))))
 
 loop-again : tie.Need-loop-again Inv-loop μ-loop
 loop-again c =
@@ -58,15 +47,5 @@ returns-2 c =
 
 pub spare-spec : {M : Type 1} → statement M
 spare-spec =
-    tie.close
-    (tie.spec
-    Inv-loop
-    μ-loop
-    loop-holds
-    mul-if1
-    shared-slice-read-if1
-    returns
-    add-i
-    loop-less
-    loop-again
+    tie.close (tie.spec Inv-loop μ-loop loop-holds (λ c. search needs) (λ c. search needs) returns (λ c. search needs) (λ c. search needs) loop-again
     returns-2)

@@ -8,7 +8,7 @@ use borrow.Author.Needs.{needs}
 use borrow.Author.Tests.{le-leb, lt-leb}
 use lib.Dec.{leb}
 use lib.ListN.{getD}
-use Rattle.algebra.proofs.Search.{some-intro, none-intro}
+use Rattle.algebra.proofs.Search.{any-intro, none-intro}
 use Rattle.order.proofs.form.stray.Statement.{statement}
 use Rattle.order.proofs.form.stray.Tie as tie
 
@@ -21,26 +21,12 @@ abbrev μ-loop : tie.MeasureT-loop
 loop-holds : tie.Need-loop-holds Inv-loop μ-loop
 loop-holds c = (omega arith, λ k h. absurd (omega arith))
 
-mul-wide : tie.Need-mul-wide Inv-loop μ-loop
-mul-wide c = search needs
-
-shared-slice-read-wide : tie.Need-shared-slice-read-wide Inv-loop μ-loop
-shared-slice-read-wide c = search needs
-
-wide-requires : tie.Need-wide-requires Inv-loop μ-loop
-wide-requires c κs = search needs
-
 returns : tie.Need-returns Inv-loop μ-loop
 returns c =
     let a = c .before .before .before .before .before .before .args in
     let i = c .before .before .before .before .loop .i in
-    sym (some-intro (λ i. leb (a .size) (getD (a .rows .now) i 0)) (a .n) i (omega arith) (le-leb (a .size) (getD (a .rows .now) i 0) (omega (arith, c .before .wide .ensures))))
-
-add-i : tie.Need-add-i Inv-loop μ-loop
-add-i c = search needs
-
-loop-less : tie.Need-loop-less Inv-loop μ-loop
-loop-less c = search needs
+    sym (any-intro (λ i. leb (a .size) (getD (a .rows .now) i 0)) (a .n) i (omega arith)
+    (le-leb (a .size) (getD (a .rows .now) i 0) (omega (arith, c .before .wide .ensures))))
 
 loop-again : tie.Need-loop-again Inv-loop μ-loop
 loop-again c =
@@ -58,16 +44,5 @@ returns-2 c =
 
 pub stray-spec : {M : Type 1} → statement M
 stray-spec =
-    tie.close
-    (tie.spec
-    Inv-loop
-    μ-loop
-    loop-holds
-    mul-wide
-    shared-slice-read-wide
-    wide-requires
-    returns
-    add-i
-    loop-less
-    loop-again
-    returns-2)
+    tie.close (tie.spec Inv-loop μ-loop loop-holds (λ c. search needs) (λ c. search needs) (λ c κs. search needs) returns (λ c. search needs)
+    (λ c. search needs) loop-again returns-2)

@@ -6,12 +6,6 @@ use borrow.Author.Needs.{needs}
 use Rattle.plan.proofs.make.make_plan.Statement.{statement}
 use Rattle.plan.proofs.make.make_plan.Tie as tie
 
-judge-requires : tie.Need-judge-requires
-judge-requires c κs = search needs
-
-empty-plan-requires : tie.Need-empty-plan-requires
-empty-plan-requires c κs = search needs
-
 returns : tie.Need-returns
 returns c =
     let s = c .before .before .before in
@@ -32,5 +26,4 @@ returns-2 c =
     answer-taken (s .args .order) (j .result) (c .plan-for .result) (j .ensures) (c .before .before .if1 .left) (c .plan-for .ensures)
 
 pub make-plan-spec : {M : Type 1} → statement M
-make-plan-spec =
-    tie.close (tie.spec judge-requires empty-plan-requires returns plan-for-requires returns-2)
+make-plan-spec = tie.close (tie.spec (λ c κs. search needs) (λ c κs. search needs) returns plan-for-requires returns-2)

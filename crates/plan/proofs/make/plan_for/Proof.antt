@@ -1,4 +1,4 @@
--- `plan::make::plan_for` meets its contract: each turn stores one of the passes that are to come, and the last call what is left. Assumes nothing.
+-- `plan::make::plan_for` meets its contract: each iteration stores one of the passes that are to come, and the last call what is left. Assumes nothing.
 use mathlib.Core.Path.{_∙_, _≡_, ap, sym}
 use Prim.Native.Nat.{_-_}
 use native.Mathlib.Omega.{arith}
@@ -8,7 +8,7 @@ use Rattle.bank.specs.Limits.{ROWS}
 use Rattle.bank.specs.declared.Geometry.{Geometry}
 use Rattle.planning.specs.declared.Plan.{Plan}
 use Rattle.bank.proofs.Limits.{limits→allowed}
-use Rattle.plan.proofs.Making.{Making, ahead, make-end, make-goes, make-room, make-start, make-turn, make-whole}
+use Rattle.plan.proofs.Making.{Making, ahead, make-end, make-goes, make-room, make-start, make-once, make-whole}
 use Rattle.plan.proofs.make.plan_for.Statement.{statement}
 use Rattle.plan.proofs.make.plan_for.Tie as tie
 
@@ -22,20 +22,8 @@ abbrev μ-loop : tie.MeasureT-loop
 abbrev onto : Geometry → Plan → Plan
 onto g plan = record { geometry = g; count = plan .count; rows = plan .rows; complements = plan .complements }
 
-cast-n : tie.Need-cast-n Inv-loop μ-loop
-cast-n c = search needs
-
-cast-b : tie.Need-cast-b Inv-loop μ-loop
-cast-b c = search needs
-
-cast-m : tie.Need-cast-m Inv-loop μ-loop
-cast-m c = search needs
-
 operate-requires : tie.Need-operate-requires Inv-loop μ-loop
 operate-requires c κs = let k = limits→allowed _ (c .before .before .before .before .pre .0) in (omega (arith, k .block-below), k .memory-below, k .n-high)
-
-empty-plan-requires : tie.Need-empty-plan-requires Inv-loop μ-loop
-empty-plan-requires c κs = search needs
 
 loop-holds : tie.Need-loop-holds Inv-loop μ-loop
 loop-holds c =
@@ -44,13 +32,14 @@ loop-holds c =
     let g = a .g in
     let o = c .before .before .before .operate in
     let e = c .before .before .empty-plan in
-    make-start g (a .t2) (a .c) (s .pre .0) (search needs) (s .pre .1) (o .result .cols) (o .result .p) (o .ensures .0) (o .ensures .1) (onto g (e .result)) (ap (onto g) (e .ensures))
+    make-start g (a .t2) (a .c) (s .pre .0) (search needs) (s .pre .1) (o .result .cols) (o .result .p) (o .ensures .0) (o .ensures .1)
+    (onto g (e .result)) (ap (onto g) (e .ensures))
 
 is-busy-requires : tie.Need-is-busy-requires Inv-loop μ-loop
-is-busy-requires c κs = let k = c .before .loop .inv in (k .within, k .wide)
+is-busy-requires c κs = let k = c .before .loop .inv in (k .memory-below, k .wide)
 
 round-requires : tie.Need-round-requires Inv-loop μ-loop
-round-requires c κs = let k = c .before .before .before .before .loop .inv in (k .below, k .within, k .wide, k .ready)
+round-requires c κs = let k = c .before .before .before .before .loop .inv in (k .below, k .memory-below, k .wide, k .ready)
 
 rows-after-requires : tie.Need-rows-after-requires Inv-loop μ-loop
 rows-after-requires c κs = c .before .before .before .before .before .before .before .before .loop .inv .wide
@@ -75,7 +64,8 @@ loop-again c =
     let f = c .before .before .before .rows-after in
     let w = c .before .before .with-pass in
     let t = c .before .before .before .before .before .before .before .before .before in
-    make-turn (t .before .before .before .loop .inv) (sym (t .before .is-busy .ensures) ∙ t .if1 .taken) (r .result .pass) (r .result .cols) (c .identity .result) (f .result) (w .result) (r .ensures .0) (r .ensures .1) (c .identity .ensures) (f .ensures) (w .ensures)
+    make-once (t .before .before .before .loop .inv) (sym (t .before .is-busy .ensures) ∙ t .if1 .taken) (r .result .pass) (r .result .cols)
+    (c .identity .result) (f .result) (w .result) (r .ensures .0) (r .ensures .1) (c .identity .ensures) (f .ensures) (w .ensures)
 
 rows-after-requires-2 : tie.Need-rows-after-requires-2 Inv-loop μ-loop
 rows-after-requires-2 c κs = c .before .before .before .before .before .loop .inv .wide
@@ -97,24 +87,6 @@ returns c =
 
 pub plan-for-spec : {M : Type 1} → statement M
 plan-for-spec =
-    tie.close
-    (tie.spec
-    Inv-loop
-    μ-loop
-    cast-n
-    cast-b
-    cast-m
-    operate-requires
-    empty-plan-requires
-    loop-holds
-    is-busy-requires
-    round-requires
-    rows-after-requires
-    with-pass-requires
-    identity-requires
-    add-p
-    loop-less
-    loop-again
-    rows-after-requires-2
-    with-pass-requires-2
-    returns)
+    tie.close (tie.spec Inv-loop μ-loop (λ c. search needs) (λ c. search needs) (λ c. search needs) operate-requires (λ c κs. search needs) loop-holds
+    is-busy-requires round-requires rows-after-requires with-pass-requires identity-requires add-p loop-less loop-again rows-after-requires-2
+    with-pass-requires-2 returns)

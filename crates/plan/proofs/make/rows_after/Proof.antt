@@ -5,16 +5,11 @@ use Rattle.plan.proofs.Making.{rows-code}
 use Rattle.plan.proofs.make.rows_after.Statement.{statement}
 use Rattle.plan.proofs.make.rows_after.Tie as tie
 
-product-requires : tie.Need-product-requires
-product-requires c κs = search needs
-
-columns-requires : tie.Need-columns-requires
-columns-requires c κs = search needs
-
 returns : tie.Need-returns
 returns c =
     let a = c .before .before .before .args in
-    rows-code ROWS (a .n) (a .a .now) (a .q .now) (c .before .before .product .result) (c .columns .result) (search needs) (search needs) (c .before .before .product .ensures) (c .columns .ensures)
+    let p = c .before .before .product in
+    rows-code ROWS (a .n) (a .a .now) (a .q .now) (p .result) (c .columns .result) (search needs) (search needs) (p .ensures) (c .columns .ensures)
 
 pub rows-after-spec : {M : Type 1} → statement M
-rows-after-spec = tie.close (tie.spec product-requires columns-requires returns)
+rows-after-spec = tie.close (tie.spec (λ c κs. search needs) (λ c κs. search needs) returns)

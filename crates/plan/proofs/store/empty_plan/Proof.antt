@@ -3,11 +3,5 @@ use mathlib.Core.Path.{refl}
 use Rattle.plan.proofs.store.empty_plan.Statement.{statement}
 use Rattle.plan.proofs.store.empty_plan.Tie as tie
 
-returns : tie.Need-returns
-returns c = refl
-
 pub empty-plan-spec : {M : Type 1} → statement M
-empty-plan-spec =
-    tie.close
-    (tie.spec
-    returns)
+empty-plan-spec = tie.close (tie.spec (λ c. refl))

@@ -16,49 +16,15 @@ Inv-loop from to m cols part₀ i₀ part i = (i ≤ to - from) × (part ≡ fil
 abbrev μ-loop : tie.MeasureT-loop
 μ-loop from to m cols part₀ i₀ part i = to - from - i
 
-loop-holds : tie.Need-loop-holds Inv-loop μ-loop
-loop-holds c = (search needs, refl)
-
-sub-loop : tie.Need-sub-loop Inv-loop μ-loop
-sub-loop c = search needs
-
-add-part : tie.Need-add-part Inv-loop μ-loop
-add-part c = search needs
-
-mul-part : tie.Need-mul-part Inv-loop μ-loop
-mul-part c = search needs
-
-array-read-part : tie.Need-array-read-part Inv-loop μ-loop
-array-read-part c = search needs
-
-cast-part : tie.Need-cast-part Inv-loop μ-loop
-cast-part c = search needs
-
-shr-part : tie.Need-shr-part Inv-loop μ-loop
-shr-part c = search needs
-
-mul-part-2 : tie.Need-mul-part-2 Inv-loop μ-loop
-mul-part-2 c = search needs
-
-array-write-part : tie.Need-array-write-part Inv-loop μ-loop
-array-write-part c = search needs
-
-add-i : tie.Need-add-i Inv-loop μ-loop
-add-i c = search needs
-
-loop-less : tie.Need-loop-less Inv-loop μ-loop
-loop-less c = search needs
-
 loop-again : tie.Need-loop-again Inv-loop μ-loop
 loop-again c =
     let a = c .before .before .args in
     let l = c .before .loop in
     let k = a .to - a .from in
     let low = lowerPart (a .t1) (a .from) k (a .m) in
-    let long : length low ≡ k = lower-length (a .t1) (a .from) k (a .m) (omega arith) in (
-      search needs,
-      filled-next ROWS low (omega arith) (l .i) (getD (a .t1) (a .from + l .i) 0 / 2 ^ a .m) (l .part) (omega arith) (l .inv .1) (sym (lower-at (a .t1) (a .from) k (a .m) (l .i) (omega arith))),
-    )
+    let long : length low ≡ k = lower-length (a .t1) (a .from) k (a .m) (omega arith) in
+    let next = sym (lower-at (a .t1) (a .from) k (a .m) (l .i) (omega arith)) in
+    (search needs, filled-next ROWS low (omega arith) (l .i) (getD (a .t1) (a .from + l .i) 0 / 2 ^ a .m) (l .part) (omega arith) (l .inv .1) next)
 
 returns : tie.Need-returns Inv-loop μ-loop
 returns c =
@@ -71,20 +37,5 @@ returns c =
 
 pub lowered-spec : {M : Type 1} → statement M
 lowered-spec =
-    tie.close
-    (tie.spec
-    Inv-loop
-    μ-loop
-    loop-holds
-    sub-loop
-    add-part
-    mul-part
-    array-read-part
-    cast-part
-    shr-part
-    mul-part-2
-    array-write-part
-    add-i
-    loop-less
-    loop-again
-    returns)
+    tie.close (tie.spec Inv-loop μ-loop (λ c. (search needs, refl)) (λ c. search needs) (λ c. search needs) (λ c. search needs) (λ c. search needs)
+    (λ c. search needs) (λ c. search needs) (λ c. search needs) (λ c. search needs) (λ c. search needs) (λ c. search needs) loop-again returns)

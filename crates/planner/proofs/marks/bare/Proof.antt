@@ -17,16 +17,10 @@ returns-2 c =
     let a = c .before .before .args in
     sym (ap oneIf (bare-high (a .set) (a .from) (a .to) (a .j) (omega arith) (omega arith)))
 
-cast-bit-of : tie.Need-cast-bit-of
-cast-bit-of c = search needs
-
-bit-of-requires : tie.Need-bit-of-requires
-bit-of-requires c κs = search needs
-
 returns-3 : tie.Need-returns-3
 returns-3 c =
     let a = c .before .before .before .args in
     bare-one (a .set) (a .from) (a .to) (a .j) (c .bit-of .result) (omega arith) (omega arith) (c .bit-of .ensures)
 
 pub bare-spec : {M : Type 1} → statement M
-bare-spec = tie.close (tie.spec returns returns-2 cast-bit-of bit-of-requires returns-3)
+bare-spec = tie.close (tie.spec returns returns-2 (λ c. search needs) (λ c κs. search needs) returns-3)

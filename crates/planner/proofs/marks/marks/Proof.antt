@@ -9,7 +9,7 @@ use borrow.Author.Needs.{elem-fits, needs}
 use Rattle.bank.specs.Limits.{ROWS}
 use Rattle.algebra.specs.Elimination.{built}
 use Rattle.algebra.specs.Matrix.{marked}
-use Rattle.algebra.specs.Vector.{WORD, times}
+use Rattle.algebra.specs.Vector.{WORD, unlessZero}
 use Rattle.algebra.proofs.Built.{built-count, built-next}
 use Rattle.matrix.specs.Echelon.{echelonOf}
 use Rattle.planner.specs.Marks.{maskOf}
@@ -24,18 +24,9 @@ Inv-loop k cols e₀ set₀ j₀ e set j = (j ≤ k) × (echelonOf e ≡ built R
 abbrev μ-loop : tie.MeasureT-loop
 μ-loop k cols e₀ set₀ j₀ e set j = k - j
 
-no-entries-requires : tie.Need-no-entries-requires Inv-loop μ-loop
-no-entries-requires c κs = search needs
-
 loop-holds : tie.Need-loop-holds Inv-loop μ-loop
 unfolding built maskOf
 loop-holds c = (search needs, c .no-entries .ensures, refl)
-
-mul-column : tie.Need-mul-column Inv-loop μ-loop
-mul-column c = search needs
-
-array-read-column : tie.Need-array-read-column Inv-loop μ-loop
-array-read-column c = search needs
 
 reduce-requires : tie.Need-reduce-requires Inv-loop μ-loop
 reduce-requires c κs =
@@ -43,29 +34,11 @@ reduce-requires c κs =
     let few = built-count ROWS (c .before .before .before .args .t1) (l .j) (echelonOf (l .e)) (l .inv .1) in
     omega arith
 
-cast-power : tie.Need-cast-power Inv-loop μ-loop
-cast-power c = search needs
-
-power-requires : tie.Need-power-requires Inv-loop μ-loop
-power-requires c κs = search needs
-
-times-requires : tie.Need-times-requires Inv-loop μ-loop
-times-requires c κs = search needs
-
-cast-grow : tie.Need-cast-grow Inv-loop μ-loop
-cast-grow c = search needs
-
 grow-requires : tie.Need-grow-requires Inv-loop μ-loop
 grow-requires c κs =
     let l = c .before .before .before .before .loop in
     let few = built-count ROWS (c .before .before .before .before .before .before .args .t1) (l .j) (echelonOf (l .e)) (l .inv .1) in
     (omega arith, search needs)
-
-add-j : tie.Need-add-j Inv-loop μ-loop
-add-j c = search needs
-
-loop-less : tie.Need-loop-less Inv-loop μ-loop
-loop-less c = search needs
 
 loop-again : tie.Need-loop-again Inv-loop μ-loop
 loop-again c =
@@ -74,10 +47,12 @@ loop-again c =
     let cols = s .args .t1 in
     let fits : (i : ℕ) → getD cols i 0 < 2 ^ WORD = λ i. elem-fits w32 w32 cols (s .good .0 .0) i (s .good .0 .1 .1) tt .fits in
     let r = c .before .before .before .reduce in
-    let same = left-marked ROWS cols WORD (search needs) fits (l .j) (omega arith) (echelonOf (l .e)) (l .inv .1) (r .result .left) (r .ensures .0) (2 ^ l .j) in (
+    let e = echelonOf (l .e) in
+    let same = left-marked ROWS cols WORD (search needs) fits (l .j) (omega arith) e (l .inv .1) (r .result .left) (r .ensures .0) (2 ^ l .j) in (
       search needs,
-      built-next ROWS cols (l .j) (echelonOf (l .e)) (echelonOf (c .grow .result)) (l .inv .1) (c .grow .ensures),
-      ap₂ bitXor (l .inv .2) (c .before .times .ensures ∙ ap (times (r .result .left)) (c .before .before .power .ensures)) ∙ mask-next (marked cols) (l .j) (r .result .left) same,
+      built-next ROWS cols (l .j) e (echelonOf (c .grow .result)) (l .inv .1) (c .grow .ensures),
+      ap₂ bitXor (l .inv .2) (c .before .unless-zero .ensures ∙ ap (unlessZero (r .result .left)) (c .before .before .power .ensures))
+          ∙ mask-next (marked cols) (l .j) (r .result .left) same,
     )
 
 returns : tie.Need-returns Inv-loop μ-loop
@@ -89,21 +64,5 @@ returns c =
 
 pub marks-spec : {M : Type 1} → statement M
 marks-spec =
-    tie.close
-    (tie.spec
-    Inv-loop
-    μ-loop
-    no-entries-requires
-    loop-holds
-    mul-column
-    array-read-column
-    reduce-requires
-    cast-power
-    power-requires
-    times-requires
-    cast-grow
-    grow-requires
-    add-j
-    loop-less
-    loop-again
-    returns)
+    tie.close (tie.spec Inv-loop μ-loop (λ c κs. search needs) loop-holds (λ c. search needs) (λ c. search needs) reduce-requires (λ c. search needs)
+    (λ c κs. search needs) (λ c κs. search needs) (λ c. search needs) grow-requires (λ c. search needs) (λ c. search needs) loop-again returns)

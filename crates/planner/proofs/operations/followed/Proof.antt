@@ -22,37 +22,16 @@ loop-holds c =
     let a = c .args in
     (search needs, followed-start ROWS (a .k) (a .l) (a .first) (a .t3) (omega arith) (omega arith) (c .pre .1))
 
-mul-both : tie.Need-mul-both Inv-loop μ-loop
-mul-both c = search needs
-
-array-read-both : tie.Need-array-read-both Inv-loop μ-loop
-array-read-both c = search needs
-
-add-both : tie.Need-add-both Inv-loop μ-loop
-add-both c = search needs
-
-mul-both-2 : tie.Need-mul-both-2 Inv-loop μ-loop
-mul-both-2 c = search needs
-
-array-write-both : tie.Need-array-write-both Inv-loop μ-loop
-array-write-both c = search needs
-
-add-i : tie.Need-add-i Inv-loop μ-loop
-add-i c = search needs
-
-loop-less : tie.Need-loop-less Inv-loop μ-loop
-loop-less c = search needs
-
 loop-again : tie.Need-loop-again Inv-loop μ-loop
 loop-again c =
     let a = c .before .before .args in
     let l = c .before .loop in
     let list = take (a .k) (a .first) ++ take (a .l) (a .t3) in
     let long = followed-length ROWS (a .k) (a .l) (a .first) (a .t3) (omega arith) (omega arith) in
+    let next = sym (followed-at ROWS (a .k) (a .l) (a .first) (a .t3) (omega arith) (omega arith) (l .i) (omega arith)) in
     let place : a .k + l .i + 1 ≡ a .k + (l .i + 1) = omega arith in (
       search needs,
-      filled-next ROWS list (omega arith) (a .k + l .i) (getD (a .t3) (l .i) 0) (l .both) (omega arith) (l .inv .1) (sym (followed-at ROWS (a .k) (a .l) (a .first) (a .t3) (omega arith) (omega arith) (l .i) (omega arith)))
-          ∙ ap (filled ROWS list) place,
+      filled-next ROWS list (omega arith) (a .k + l .i) (getD (a .t3) (l .i) 0) (l .both) (omega arith) (l .inv .1) next ∙ ap (filled ROWS list) place,
     )
 
 returns : tie.Need-returns Inv-loop μ-loop
@@ -65,17 +44,5 @@ returns c =
 
 pub followed-spec : {M : Type 1} → statement M
 followed-spec =
-    tie.close
-    (tie.spec
-    Inv-loop
-    μ-loop
-    loop-holds
-    mul-both
-    array-read-both
-    add-both
-    mul-both-2
-    array-write-both
-    add-i
-    loop-less
-    loop-again
-    returns)
+    tie.close (tie.spec Inv-loop μ-loop loop-holds (λ c. search needs) (λ c. search needs) (λ c. search needs) (λ c. search needs) (λ c. search needs)
+    (λ c. search needs) (λ c. search needs) loop-again returns)

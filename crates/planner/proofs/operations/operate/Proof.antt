@@ -7,24 +7,6 @@ use Rattle.planner.proofs.Steps.{operate-code}
 use Rattle.planner.proofs.operations.operate.Statement.{statement}
 use Rattle.planner.proofs.operations.operate.Tie as tie
 
-columns-requires : tie.Need-columns-requires
-columns-requires c κs = search needs
-
-step1-requires : tie.Need-step1-requires
-step1-requires c κs = search needs
-
-product-requires : tie.Need-product-requires
-product-requires c κs = search needs
-
-step2-requires : tie.Need-step2-requires
-step2-requires c κs = search needs
-
-product-requires-2 : tie.Need-product-requires-2
-product-requires-2 c κs = search needs
-
-product-requires-3 : tie.Need-product-requires-3
-product-requires-3 c κs = search needs
-
 returns : tie.Need-returns
 returns c =
     let a = c .before .before .before .before .before .before .before .before .before .before .before .before .before .before .args in
@@ -33,16 +15,10 @@ returns c =
     let b = c .before .before .before .before .before .before .before .before .product in
     let s2 = c .before .before .before .before .before .before .step2 in
     let p = c .before .before .before .product2 in
-    operate-code (a .n) (a .m) (a .rows .now) (replicate (ROWS - a .n) 0) (k .result) (s1 .result) (b .result) (s2 .result) (p .result) (c .product3 .result) (k .ensures) (s1 .ensures) (b .ensures) (s2 .ensures) (p .ensures) (c .product3 .ensures)
+    operate-code (a .n) (a .m) (a .rows .now) (replicate (ROWS - a .n) 0) (k .result) (s1 .result) (b .result) (s2 .result) (p .result)
+    (c .product3 .result) (k .ensures) (s1 .ensures) (b .ensures) (s2 .ensures) (p .ensures) (c .product3 .ensures)
 
 pub operate-spec : {M : Type 1} → statement M
 operate-spec =
-    tie.close
-    (tie.spec
-    columns-requires
-    step1-requires
-    product-requires
-    step2-requires
-    product-requires-2
-    product-requires-3
-    returns)
+    tie.close (tie.spec (λ c κs. search needs) (λ c κs. search needs) (λ c κs. search needs) (λ c κs. search needs) (λ c κs. search needs)
+    (λ c κs. search needs) returns)

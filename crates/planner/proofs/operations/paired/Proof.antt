@@ -9,12 +9,12 @@ use lib.Pow.{shr-lt}
 use borrow.Author.Needs.{needs}
 use Rattle.bank.specs.Limits.{ROWS}
 use Rattle.algebra.specs.Search.{which}
-use Rattle.algebra.specs.Vector.{times}
+use Rattle.algebra.specs.Vector.{unlessZero}
 use Rattle.matrix.proofs.Filled.{filled, filled-all, filled-next}
 use Rattle.planning.specs.Columns.{adding}
-use Rattle.planning.specs.Making.{mate}
+use Rattle.planning.specs.Making.{partner}
 use Rattle.planner.specs.Marks.{bare, placesOf}
-use Rattle.planner.proofs.Pairs.{gets, turn-later, turn-now, turn-small}
+use Rattle.planner.proofs.Pairs.{gets, once-later, once-now, once-small}
 use Rattle.planning.proofs.Acts.{adding-length}
 use Rattle.planner.proofs.Steps.{adding-column}
 use Rattle.planner.proofs.operations.paired.Statement.{statement}
@@ -22,24 +22,15 @@ use Rattle.planner.proofs.operations.paired.Tie as tie
 
 -- what each column gets
 abbrev share : ℕ → ℕ → ℕ → ℕ → ℕ
-share set n m = mate (which (bare set m n) n 0) (placesOf m (set / 2 ^ (n - m)))
+share set n m = partner (which (bare set m n) n 0) (placesOf m (set / 2 ^ (n - m)))
 
 abbrev Inv-loop : tie.InvT-loop
 Inv-loop set n m out₀ left₀ j₀ out left j =
     (j ≤ n) × (left < 2 ^ m) × (out ≡ filled ROWS (adding (share set n m) n) j)
-    × ((i : ℕ) → j ≤ i → share set n m i ≡ mate (which (bare set m n) (n - j) j) (placesOf m left) i)
+    × ((i : ℕ) → j ≤ i → share set n m i ≡ partner (which (bare set m n) (n - j) j) (placesOf m left) i)
 
 abbrev μ-loop : tie.MeasureT-loop
 μ-loop set n m out₀ left₀ j₀ out left j = n - j
-
-sub-left : tie.Need-sub-left Inv-loop μ-loop
-sub-left c = search needs
-
-cast-left : tie.Need-cast-left Inv-loop μ-loop
-cast-left c = search needs
-
-shr-left : tie.Need-shr-left Inv-loop μ-loop
-shr-left c = search needs
 
 loop-holds : tie.Need-loop-holds Inv-loop μ-loop
 loop-holds c =
@@ -48,35 +39,8 @@ loop-holds c =
       search needs,
       shr-lt (a .m) (a .n - a .m) (subst (λ (k : ℕ). a .set < 2 ^ k) whole (c .pre .2)),
       refl,
-      λ i h. ap (λ (k : ℕ). mate (which (bare (a .set) (a .m) (a .n)) k 0) (placesOf (a .m) (a .set / 2 ^ (a .n - a .m))) i) (sym (sub-zero (a .n))),
+      λ i h. ap (λ (k : ℕ). partner (which (bare (a .set) (a .m) (a .n)) k 0) (placesOf (a .m) (a .set / 2 ^ (a .n - a .m))) i) (sym (sub-zero (a .n))),
     )
-
-bare-requires : tie.Need-bare-requires Inv-loop μ-loop
-bare-requires c κs = search needs
-
-lowest-of-requires : tie.Need-lowest-of-requires Inv-loop μ-loop
-lowest-of-requires c κs = search needs
-
-times-requires : tie.Need-times-requires Inv-loop μ-loop
-times-requires c κs = search needs
-
-cast-power : tie.Need-cast-power Inv-loop μ-loop
-cast-power c = search needs
-
-power-requires : tie.Need-power-requires Inv-loop μ-loop
-power-requires c κs = search needs
-
-mul-out : tie.Need-mul-out Inv-loop μ-loop
-mul-out c = search needs
-
-array-write-out : tie.Need-array-write-out Inv-loop μ-loop
-array-write-out c = search needs
-
-add-j : tie.Need-add-j Inv-loop μ-loop
-add-j c = search needs
-
-loop-less : tie.Need-loop-less Inv-loop μ-loop
-loop-less c = search needs
 
 loop-again : tie.Need-loop-again Inv-loop μ-loop
 loop-again c =
@@ -84,15 +48,17 @@ loop-again c =
     let l = c .before .before .before .before .before .loop in
     let test = bare (a .set) (a .m) (a .n) in
     let f = share (a .set) (a .n) (a .m) in
-    let w = c .before .times .result in
-    let got : w ≡ gets (test (l .j)) (l .left) = c .before .times .ensures ∙ ap₂ times (c .before .before .before .bare .ensures) (c .before .before .lowest-of .ensures) in
+    let w = c .before .unless-zero .result in
+    let got : w ≡ gets (test (l .j)) (l .left)
+    = c .before .unless-zero .ensures ∙ ap₂ unlessZero (c .before .before .before .bare .ensures) (c .before .before .lowest-of .ensures) in
     let below : l .j < a .n = omega arith in
-    let now = turn-now test (a .n) (a .m) f (l .j) (l .left) w below (l .inv .1) (omega arith) (l .inv .3) got in
+    let now = once-now test (a .n) (a .m) f (l .j) (l .left) w below (l .inv .1) (omega arith) (l .inv .3) got in
+    let column = adding-column f (a .n) (l .j) below in
     let long = adding-length f (a .n) in (
       search needs,
-      turn-small test (a .n) (a .m) f (l .j) (l .left) w below (l .inv .1) (omega arith) (l .inv .3) got,
-      filled-next ROWS (adding f (a .n)) (omega arith) (l .j) (bitXor (c .power .result) w) (l .out) (omega arith) (l .inv .2) (cc (adding-column f (a .n) (l .j) below)),
-      turn-later test (a .n) (a .m) f (l .j) (l .left) w below (l .inv .1) (omega arith) (l .inv .3) got,
+      once-small test (a .n) (a .m) f (l .j) (l .left) w below (l .inv .1) (omega arith) (l .inv .3) got,
+      filled-next ROWS (adding f (a .n)) (omega arith) (l .j) (bitXor (c .power .result) w) (l .out) (omega arith) (l .inv .2) (cc),
+      once-later test (a .n) (a .m) f (l .j) (l .left) w below (l .inv .1) (omega arith) (l .inv .3) got,
     )
 
 returns : tie.Need-returns Inv-loop μ-loop
@@ -105,22 +71,6 @@ returns c =
 
 pub paired-spec : {M : Type 1} → statement M
 paired-spec =
-    tie.close
-    (tie.spec
-    Inv-loop
-    μ-loop
-    sub-left
-    cast-left
-    shr-left
-    loop-holds
-    bare-requires
-    lowest-of-requires
-    times-requires
-    cast-power
-    power-requires
-    mul-out
-    array-write-out
-    add-j
-    loop-less
-    loop-again
-    returns)
+    tie.close (tie.spec Inv-loop μ-loop (λ c. search needs) (λ c. search needs) (λ c. search needs) loop-holds (λ c κs. search needs)
+    (λ c κs. search needs) (λ c κs. search needs) (λ c. search needs) (λ c κs. search needs) (λ c. search needs) (λ c. search needs)
+    (λ c. search needs) (λ c. search needs) loop-again returns)

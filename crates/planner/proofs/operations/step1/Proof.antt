@@ -1,7 +1,7 @@
 -- `planner::operations::step1` meets its contract: the columns of φ that are marked behind those of δ are W. Assumes nothing.
-use mathlib.Core.Path.{_∙_, ap, subst, sym}
+use mathlib.Core.Path.{_∙_, ap, sym}
 use mathlib.Core.List.{List, _++_, map}
-use Prim.Native.Nat.{_-_, _/_, _<_, _^_, ℕ}
+use Prim.Native.Nat.{_-_, _/_, _^_, ℕ}
 use native.Mathlib.Omega.{arith}
 use lib.ListN.{drop, replicate, take}
 use borrow.Author.Needs.{needs}
@@ -12,28 +12,17 @@ use Rattle.planner.proofs.Steps.{held-filled, step1-code}
 use Rattle.planner.proofs.operations.step1.Statement.{statement}
 use Rattle.planner.proofs.operations.step1.Tie as tie
 
-lower-requires : tie.Need-lower-requires
-lower-requires c κs = search needs
-
-lower-requires-2 : tie.Need-lower-requires-2
-lower-requires-2 c κs = search needs
-
-sub-followed : tie.Need-sub-followed
-sub-followed c = search needs
-
 followed-requires : tie.Need-followed-requires
 followed-requires c κs =
     let a = c .before .before .args in
     let d = c .before .lower in
-    (omega arith, held-filled ROWS (a .n - a .m) (d .result) (map (λ v. v / 2 ^ a .m) (take (a .n - a .m) (drop (a .m) (a .cols .now)))) (omega arith) (d .ok .1 .0 .1) (d .ensures))
-
-marks-requires : tie.Need-marks-requires
-marks-requires c κs = search needs
+    let k = a .n - a .m in
+    (omega arith, held-filled ROWS k (d .result) (map (λ v. v / 2 ^ a .m) (take k (drop (a .m) (a .cols .now)))) (omega arith) (d .ok .1 .0 .1) (d .ensures))
 
 paired-requires : tie.Need-paired-requires
 paired-requires c κs =
     let n = c .before .before .before .before .args .n in
-    (search needs, search needs, subst (λ (set : ℕ). set < 2 ^ n) (sym (c .marks .ensures)) (mask-lt (marked (c .before .followed .result)) n), search needs)
+    (search needs, search needs, rw (c .marks .ensures) (mask-lt (marked (c .before .followed .result)) n), search needs)
 
 returns : tie.Need-returns
 returns c =
@@ -44,16 +33,10 @@ returns c =
     let set = c .before .marks in
     c .paired .ensures
     ∙ ap (λ (l : List ℕ). l ++ replicate (ROWS - a .n) 0)
-    (sym (step1-code ROWS (a .n) (a .m) (omega arith) (omega arith) (a .cols .now) (d .result) (f .result) (both .result) (set .result) (d .ok .1 .0 .1) (f .ok .1 .0 .1) (d .ensures) (f .ensures) (both .ensures) (set .ensures)))
+    (sym (step1-code ROWS (a .n) (a .m) (omega arith) (omega arith) (a .cols .now) (d .result) (f .result) (both .result) (set .result)
+    (d .ok .1 .0 .1) (f .ok .1 .0 .1) (d .ensures) (f .ensures) (both .ensures) (set .ensures)))
 
 pub step1-spec : {M : Type 1} → statement M
 step1-spec =
-    tie.close
-    (tie.spec
-    lower-requires
-    lower-requires-2
-    sub-followed
-    followed-requires
-    marks-requires
-    paired-requires
+    tie.close (tie.spec (λ c κs. search needs) (λ c κs. search needs) (λ c. search needs) followed-requires (λ c κs. search needs) paired-requires
     returns)

@@ -7,23 +7,10 @@ use Rattle.planner.proofs.Places.{zero-column}
 use Rattle.planner.proofs.rounds.is_zero.Statement.{statement}
 use Rattle.planner.proofs.rounds.is_zero.Tie as tie
 
-mul-result : tie.Need-mul-result
-mul-result c = search needs
-
-element-copy-out-result : tie.Need-element-copy-out-result
-element-copy-out-result c = search needs
-
-cast-result : tie.Need-cast-result
-cast-result c = search needs
-
-shr-result : tie.Need-shr-result
-shr-result c = search needs
-
 returns : tie.Need-returns
 returns c =
     let a = c .before .args in
     zero-column (a .m) (a .cols .now) (a .j) (getD (a .cols .now) (a .j) 0 / 2 ^ a .m) (search needs) refl
 
 pub is-zero-spec : {M : Type 1} → statement M
-is-zero-spec =
-    tie.close (tie.spec mul-result element-copy-out-result cast-result shr-result returns)
+is-zero-spec = tie.close (tie.spec (λ c. search needs) (λ c. search needs) (λ c. search needs) (λ c. search needs) returns)

@@ -6,18 +6,13 @@ use native.Mathlib.Omega.{arith}
 use lib.ListN.{replicate, take}
 use borrow.Author.Needs.{needs}
 use Rattle.bank.specs.Limits.{ROWS}
-use Rattle.planning.specs.Columns.{after}
-use Rattle.planning.specs.Making.{RoundReady, erases, swaps}
-use Rattle.planning.proofs.Round.{swapped-ready}
+use Rattle.planning.specs.Making.{erases, swaps}
+use Rattle.planning.proofs.Round.{after-swaps-ready}
 use Rattle.planner.proofs.Products.{erases-front, front-after, swapped-front, swaps-front}
 use Rattle.planner.proofs.rounds.round.Statement.{statement}
 use Rattle.planner.proofs.rounds.round.Tie as tie
-
-swaps-requires : tie.Need-swaps-requires
-swaps-requires c κs = search needs
-
-product-requires : tie.Need-product-requires
-product-requires c κs = search needs
+use Rattle.algebra.specs.Matrix.{after}
+use Rattle.planning.specs.Inner.{RoundReady}
 
 erases-requires : tie.Need-erases-requires
 erases-requires c κs =
@@ -27,14 +22,10 @@ erases-requires c κs =
     let rest : List ℕ = replicate (ROWS - a .n) 0 in
     let S = c .before .before .before .swaps in
     let w = c .before .product in
-    let front = swapped-front (a .n) (a .b) (a .m) cols (S .result) (w .result) rest (swaps-front (a .n) (a .b) (a .m) cols (S .result) (w .result) rest (S .ensures)) (w .ensures) in
-    (search needs, search needs, search needs, subst (λ (l : List ℕ). RoundReady (a .n) (a .m) l) (sym front) (swapped-ready (a .n) (a .b) (a .m) (omega arith) (omega arith) cols (s .pre .3)))
-
-product-requires-2 : tie.Need-product-requires-2
-product-requires-2 c κs = search needs
-
-product-requires-3 : tie.Need-product-requires-3
-product-requires-3 c κs = search needs
+    let s-front = swaps-front (a .n) (a .b) (a .m) cols (S .result) (w .result) rest (S .ensures) in
+    let w-front = swapped-front (a .n) (a .b) (a .m) cols (S .result) (w .result) rest s-front (w .ensures) in
+    let ready = after-swaps-ready (a .n) (a .b) (a .m) (omega arith) (omega arith) cols (s .pre .3) in
+    (search needs, search needs, search needs, subst (RoundReady (a .n) (a .m)) (sym w-front) ready)
 
 returns : tie.Need-returns
 returns c =
@@ -55,12 +46,4 @@ returns c =
     )
 
 pub round-spec : {M : Type 1} → statement M
-round-spec =
-    tie.close
-    (tie.spec
-    swaps-requires
-    product-requires
-    erases-requires
-    product-requires-2
-    product-requires-3
-    returns)
+round-spec = tie.close (tie.spec (λ c κs. search needs) (λ c κs. search needs) erases-requires (λ c κs. search needs) (λ c κs. search needs) returns)

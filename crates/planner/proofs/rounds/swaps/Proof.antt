@@ -1,7 +1,7 @@
 -- `planner::rounds::swaps` meets its contract. The loop's invariant: the nonzero columns below x have changed places with as many zero columns of b..y-1.
 -- Assumes nothing.
 use mathlib.Core.Path.{_∙_, ap, sym}
-use mathlib.Core.Bool.{not}
+use mathlib.Core.Bool.{Bool, not}
 use mathlib.Core.List.{List, _++_}
 use mathlib.Core.Logic.{⊎-elim}
 use Prim.Native.Nat.{_+_, _-_, _≤_, ℕ}
@@ -22,20 +22,11 @@ Inv-loop cols n b m s₀ y₀ x₀ s y x =
 abbrev μ-loop : tie.MeasureT-loop
 μ-loop cols n b m s₀ y₀ x₀ s y x = b - x
 
-identity-requires : tie.Need-identity-requires Inv-loop μ-loop
-identity-requires c κs = search needs
-
 loop-holds : tie.Need-loop-holds Inv-loop μ-loop
 loop-holds c =
     let a = c .before .args in
     let zero = zeroColumn (phi (a .m) (a .cols .now)) in
     (search needs, search needs, search needs, exchanged-none (λ j. not (zero j)) zero (a .b) (a .n) (ROWS - a .n) (c .identity .result) (c .identity .ensures))
-
-is-zero-requires : tie.Need-is-zero-requires Inv-loop μ-loop
-is-zero-requires c κs = search needs
-
-next-zero-requires : tie.Need-next-zero-requires Inv-loop μ-loop
-next-zero-requires c κs = search needs
 
 returns : tie.Need-returns Inv-loop μ-loop
 returns c =
@@ -46,44 +37,13 @@ returns c =
     (λ k u v. from zero (a .m - l .y) (l .y) .before k u (omega (arith, c .before .next-zero .ensures))) (l .inv .3)
     ∙ ap (λ (t : List ℕ). t ++ replicate (ROWS - a .n) 0) (swaps-are (a .n) (a .b) (a .m) (a .cols .now) (omega arith))
 
-cast-power : tie.Need-cast-power Inv-loop μ-loop
-cast-power c = search needs
-
-power-requires : tie.Need-power-requires Inv-loop μ-loop
-power-requires c κs = search needs
-
-mul-s : tie.Need-mul-s Inv-loop μ-loop
-mul-s c = search needs
-
-array-write-s : tie.Need-array-write-s Inv-loop μ-loop
-array-write-s c = search needs
-
-cast-power-2 : tie.Need-cast-power-2 Inv-loop μ-loop
-cast-power-2 c = search needs
-
-power-requires-2 : tie.Need-power-requires-2 Inv-loop μ-loop
-power-requires-2 c κs = search needs
-
-mul-s-2 : tie.Need-mul-s-2 Inv-loop μ-loop
-mul-s-2 c = search needs
-
-array-write-s-2 : tie.Need-array-write-s-2 Inv-loop μ-loop
-array-write-s-2 c = search needs
-
-add-y : tie.Need-add-y Inv-loop μ-loop
-add-y c = search needs
-
-add-x : tie.Need-add-x Inv-loop μ-loop
-add-x c = search needs
-
-loop-less : tie.Need-loop-less Inv-loop μ-loop
-loop-less c = search needs
-
 loop-again : tie.Need-loop-again Inv-loop μ-loop
 loop-again c =
     let a = c .before .before .before .before .before .args in
     let l = c .before .before .before .loop in
     let zero = zeroColumn (phi (a .m) (a .cols .now)) in
+    let full : ℕ → Bool = λ j. not (zero j) in
+    let room = ROWS - a .n in
     let went = ap not (c .before .is-zero .ensures) in
     ⊎-elim
     (λ t.
@@ -93,16 +53,17 @@ loop-again c =
       search needs,
       omega (arith, e, found .low),
       omega (arith, e, found .high),
-      exchanged-same (λ j. not (zero j)) zero (a .b) (a .n) (ROWS - a .n) (l .x + 1) (z + 1) (c .if1 .y) (set (set (l .s) (l .x) (t .3 .result)) z (t .4 .result)) (c .if1 .s) (t .6) (t .5)
-          (exchanged-more (λ j. not (zero j)) zero (a .b) (a .n) (ROWS - a .n) (l .x) (l .y) z (search needs) (search needs) (omega (arith, e, found .low)) (sym went ∙ t .0 .taken)
-          (ap zero e ∙ found .holds (omega arith)) (λ k u v. found .before k u (omega arith)) (l .s) (t .3 .result) (t .4 .result) (omega arith) (t .3 .ensures) (t .4 .ensures) (l .inv .3)),
+      exchanged-same full zero (a .b) (a .n) room (l .x + 1) (z + 1) (c .if1 .y) (set (set (l .s) (l .x) (t .3 .result)) z (t .4 .result)) (c .if1 .s)
+          (t .6) (t .5) (exchanged-more full zero (a .b) (a .n) room (l .x) (l .y) z (search needs) (search needs) (omega (arith, e, found .low))
+          (sym went ∙ t .0 .taken) (ap zero e ∙ found .holds (omega arith)) (λ k u v. found .before k u (omega arith)) (l .s) (t .3 .result) (t .4 .result)
+          (omega arith) (t .3 .ensures) (t .4 .ensures) (l .inv .3)),
     ))
     (λ t. (
       search needs,
       search needs,
       search needs,
-      exchanged-same (λ j. not (zero j)) zero (a .b) (a .n) (ROWS - a .n) (l .x + 1) (l .y) (c .if1 .y) (l .s) (c .if1 .s) (t .2) (t .1)
-          (exchanged-skip (λ j. not (zero j)) zero (a .b) (a .n) (ROWS - a .n) (l .x) (l .y) (l .s) (sym went ∙ t .0 .left) (l .inv .3)),
+      exchanged-same full zero (a .b) (a .n) room (l .x + 1) (l .y) (c .if1 .y) (l .s) (c .if1 .s) (t .2) (t .1)
+          (exchanged-skip full zero (a .b) (a .n) room (l .x) (l .y) (l .s) (sym went ∙ t .0 .left) (l .inv .3)),
     ))
     (c .if1 .came)
 
@@ -116,25 +77,6 @@ returns-2 c =
 
 pub swaps-spec : {M : Type 1} → statement M
 swaps-spec =
-    tie.close
-    (tie.spec
-    Inv-loop
-    μ-loop
-    identity-requires
-    loop-holds
-    is-zero-requires
-    next-zero-requires
-    returns
-    cast-power
-    power-requires
-    mul-s
-    array-write-s
-    cast-power-2
-    power-requires-2
-    mul-s-2
-    array-write-s-2
-    add-y
-    add-x
-    loop-less
-    loop-again
-    returns-2)
+    tie.close (tie.spec Inv-loop μ-loop (λ c κs. search needs) loop-holds (λ c κs. search needs) (λ c κs. search needs) returns (λ c. search needs)
+    (λ c κs. search needs) (λ c. search needs) (λ c. search needs) (λ c. search needs) (λ c κs. search needs) (λ c. search needs) (λ c. search needs)
+    (λ c. search needs) (λ c. search needs) (λ c. search needs) loop-again returns-2)

@@ -13,41 +13,10 @@ Inv-loop area₀ first i₀ area i = (i ≤ length area₀) × (length area ≡ 
 abbrev μ-loop : tie.MeasureT-loop
 μ-loop area₀ first i₀ area i = length area₀ - i
 
-loop-holds : tie.Need-loop-holds Inv-loop μ-loop
-loop-holds c = search needs
-
-label-of-requires : tie.Need-label-of-requires Inv-loop μ-loop
-label-of-requires c κs = search needs
-
-slice-write-area : tie.Need-slice-write-area Inv-loop μ-loop
-slice-write-area c = search needs
-
-add-i : tie.Need-add-i Inv-loop μ-loop
-add-i c = search needs
-
-loop-less : tie.Need-loop-less Inv-loop μ-loop
-loop-less c = search needs
-
 loop-again : tie.Need-loop-again Inv-loop μ-loop
 loop-again c = (omega arith, simp length-set (c .before .before .loop .inv .1))
 
-same-length : tie.Need-same-length Inv-loop μ-loop
-same-length c = search needs
-
-returns : tie.Need-returns Inv-loop μ-loop
-returns c = search needs
-
 pub label-spec : {M : Type 1} → statement M
 label-spec =
-    tie.close
-    (tie.spec
-    Inv-loop
-    μ-loop
-    loop-holds
-    label-of-requires
-    slice-write-area
-    add-i
-    loop-less
-    loop-again
-    same-length
-    returns)
+    tie.close (tie.spec Inv-loop μ-loop (λ c. search needs) (λ c κs. search needs) (λ c. search needs) (λ c. search needs) (λ c. search needs)
+    loop-again (λ c. search needs) (λ c. search needs))

@@ -7,19 +7,13 @@ use Rattle.planning.specs.State.{advancedBy}
 use Rattle.planning.proofs.state.State.advanced.Statement.{statement}
 use Rattle.planning.proofs.state.State.advanced.Tie as tie
 
-sub-if1 : tie.Need-sub-if1
-sub-if1 c = search needs
-
 returns : tie.Need-returns
 unfolding advancedBy
 returns c = simp (le-ltb (c .before .args .self .next .0 + c .before .args .k) (2 ^ 64) (omega arith))
-
-add-t5 : tie.Need-add-t5
-add-t5 c = search needs
 
 returns-2 : tie.Need-returns-2
 unfolding advancedBy
 returns-2 c = simp (lt-ltb (c .before .args .self .next .0 + c .before .args .k) (2 ^ 64) (omega arith))
 
 pub advanced-spec : {M : Type 1} → statement M
-advanced-spec = tie.close (tie.spec sub-if1 returns add-t5 returns-2)
+advanced-spec = tie.close (tie.spec (λ c. search needs) returns (λ c. search needs) returns-2)

@@ -1,0 +1,20 @@
+-- How many passes has a plan, and could fewer do? Assumes nothing.
+use mathlib.Core.Path.{_≡_}
+use Prim.Native.Nat.{_+_, _≤_}
+use lib.ListN.{length}
+use Rattle.bank.specs.Limits.{ROWS}
+use Rattle.order.specs.declared.Order.{Order}
+use Rattle.planning.specs.declared.Plan.{Plan}
+use Rattle.demands.specs.Mover.{Mover}
+use Rattle.demands.specs.Delivers.{Performs, roundsFor}
+
+pub record PassCounts (M : Mover) : Type 0 where
+  -- the plan of an order that is taken performs it
+  pub performs : (order : Order) → length (order .rows) ≡ ROWS → M .judges order ≡ 0 → Performs order (M .plans order .plan)
+  -- the plan of an order that is taken has as many passes as rounds, rank φ/(m - b) rounded up, and one more
+  pub exact : (order : Order) → length (order .rows) ≡ ROWS → M .judges order ≡ 0 → M .plans order .plan .count ≡ roundsFor order + 1
+  -- no plan that performs an order has fewer passes than it has rounds, whoever made it
+  pub at-least : (order : Order) (plan : Plan) → Performs order plan → roundsFor order ≤ plan .count
+  -- the mover's own plan is never more than one pass longer than another that performs the order
+  pub near-best : (order : Order) → length (order .rows) ≡ ROWS → M .judges order ≡ 0 → (plan : Plan) → Performs order plan
+      → M .plans order .plan .count ≤ plan .count + 1

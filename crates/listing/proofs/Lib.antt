@@ -1,0 +1,3 @@
+pub mod Put
+pub mod Digits
+pub mod Passes

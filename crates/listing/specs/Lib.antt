@@ -1,0 +1,3 @@
+-- Listings, and what a room holds afterwards.
+pub mod Listing
+pub mod Written

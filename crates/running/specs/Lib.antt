@@ -1,0 +1,2 @@
+-- What a plan totals, and where its result lies, whoever made it.
+pub mod Total
