@@ -56,6 +56,7 @@ pub record Reached (M : Mover) (plan : Plan) (cs : List Called) (end : Moment) :
   pub runs-on : (q : ℕ) (r : Ran) (w : Buffers) → M .run plan end q r w → r .number ≡ 0
 
 pub record Carries (M : Mover) (plan : Plan) : Type 0 where
+  -- the total: 2N/(BD) steps for each pass
   pub steps : M .total plan ≡ stepsAPass plan * plan .count
   -- no step moves more than one block on a drive, and every other byte stays
   pub one-block : (k : ℕ) → k < M .total plan → OneStep M plan k
@@ -98,12 +99,12 @@ pub record Delivers (M : Mover) : Type 0 where
 
 -- ---- a plan that somebody else made for an order
 
--- it is for the order's bank and can run, and its passes, in order and with their complements, take every x to Ax xor c
+-- a plan for the order's bank that can run, and whose passes, in order and with their complements, take every x to Ax xor c
 pub record Performs (order : Order) (plan : Plan) : Type 0 where
   pub on-its-bank : plan .geometry ≡ order .geometry
   pub runs : Runnable plan
   pub takes : (x : ℕ) → AddressOf order x → performed (routeOf plan .passes) x ≡ sentTo order x
 
--- the mover delivers by it all the same
+-- the mover delivers by such a plan all the same
 abbrev pub DeliversForeign : Mover → Type 0
 DeliversForeign M = (order : Order) (plan : Plan) → Performs order plan → Delivered M order plan
