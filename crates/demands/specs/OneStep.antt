@@ -67,10 +67,14 @@ pub record WriteStep (M : Mover) (plan : Plan) (k : ℕ) (blockOn : ℕ → ℕ)
 abbrev pub BlockOf : Plan → ℕ → Type 0
 BlockOf plan y = let g = plan .geometry in y < 2 ^ (g .n - g .b)
 
+-- how many drives the plan's bank has
+abbrev pub drivesOf : Plan → ℕ
+drivesOf plan = drives (plan .geometry)
+
 -- on each drive there is one block of the area, and the step is a read or a write of those
 pub record OneStep (M : Mover) (plan : Plan) (k : ℕ) : Type 0 where
   pub blockOn : ℕ → ℕ
-  pub in-area : (q : ℕ) → q < drives (plan .geometry) → BlockOf plan (blockOn q)
-  pub on-drive : (q : ℕ) → q < drives (plan .geometry) → blockOn q % drives (plan .geometry) ≡ q
+  pub in-area : (q : ℕ) → q < drivesOf plan → BlockOf plan (blockOn q)
+  pub on-drive : (q : ℕ) → q < drivesOf plan → blockOn q % drivesOf plan ≡ q
   pub reading : phaseOf (routeOf plan) k ≡ Reads → ReadStep M plan k blockOn
   pub writing : phaseOf (routeOf plan) k ≡ Writes → WriteStep M plan k blockOn

@@ -130,9 +130,8 @@ beginsAtOne = stepping totalSteps resultArea (record { next = record { 0 = 1 } }
 -- each of its reads takes the whole load
 abbrev loadRead : Plan → ℕ → Buffers → Buffers
 loadRead plan k v =
-    withMemory
-    (copied (λ q. true) (readFrom (plan .geometry) (loadOf (routeOf plan) k)) (plan .geometry .r) (bytesOf (areaRead (passOf (routeOf plan) k)) v) (v .memory))
-    v
+    let g = plan .geometry in
+    withMemory (copied (λ q. true) (readFrom g (loadOf (routeOf plan) k)) (g .r) (bytesOf (areaRead (passOf (routeOf plan) k)) v) (v .memory)) v
 
 abbrev loadStep : StepRule
 loadStep plan m k r w =
