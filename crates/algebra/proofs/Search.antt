@@ -68,7 +68,7 @@ module _ (p : ℕ → Bool) where
       ⊎-elim (le-antisymm (least-upto n k e)) (λ (l : least p n < k). absurd (true≢false (sym (least-holds n (omega arith)) ∙ f (least p n) l)))
       (le-or-lt k (least p n))
 
-  least-none : (n : ℕ) → ((k : ℕ) → k < n → p k ≡ false) → least p n ≡ n
+  pub least-none : (n : ℕ) → ((k : ℕ) → k < n → p k ≡ false) → least p n ≡ n
   least-none n f =
       ⊎-elim (le-antisymm (least-le n)) (λ (l : least p n < n). absurd (true≢false (sym (least-holds n l) ∙ f (least p n) l))) (le-or-lt n (least p n))
 

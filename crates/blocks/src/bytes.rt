@@ -7,7 +7,7 @@ ghost use Rattle.blocks.specs.Places.{every, flips, placeBy};
 ghost use Rattle.moving.specs.Laid.{laid};
 
 // dst becomes src, which is as long.
-fn copy_into(dst: &mut [u8], src: &[u8])
+pub fn copy_into(dst: &mut [u8], src: &[u8])
     requires { ⌜ length (now dst) ≡ length (now src) ⌝ }
     ensures { λ _. ⌜ now (dst .exit) ≡ now (src .entry) ⌝ }
 {

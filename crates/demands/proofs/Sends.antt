@@ -14,7 +14,7 @@ use Rattle.order.specs.declared.Order.{Order}
 use Rattle.order.specs.declared.address.Source.{Source}
 use Rattle.order.specs.Order.{badForm, judgement, matrixOf}
 use Rattle.order.specs.Address.{Found, foundFor, meaningOf, questionNumber, targetOf}
-use Rattle.order.proofs.Asked.{number-none, number-order, number-ten}
+use Rattle.order.proofs.Asked.{number-none, number-order, number-ten, target-number}
 use Rattle.order.proofs.Judged.{formless, outside-limits, regular-none, singular-three}
 use Rattle.order.proofs.Main.{comes, sends, shared-target→three, three→shared-target}
 use Rattle.demands.specs.Ours.{ours}
@@ -92,10 +92,6 @@ module _ (order : Order) where
       asked-10 : (number ≡ 10) ↔ Far
       asked-10 = (λ e. ten-far (sym is ∙ e), λ d. is ∙ number-ten order x (d .0) (d .1))
 
-  target-number : (x : ℕ) → targetOf order x .number ≡ questionNumber order x
-  unfolding targetOf
-  target-number x = refl
-
   source-number : (y : ℕ) (a : Source) → meaningOf a ≡ foundFor order y → meaningOf a .number ≡ questionNumber order y
   unfolding foundFor
   source-number y a p = ap (λ (f : Found). f .number) p
@@ -116,8 +112,8 @@ ours-sends order room =
       gives-1 = gives 1 (outside-limits order);
       gives-2 = gives 2 (λ d. formless order (d .0) (d .1));
       gives-0 = gives 0 (apart-taken order);
-      asks-judged = λ x. asked-judged order x (targetOf order x .number) (target-number order x);
-      asks-10 = λ x. asked-10 order x (targetOf order x .number) (target-number order x);
+      asks-judged = λ x. asked-judged order x (targetOf order x .number) (target-number order x (targetOf order x) refl);
+      asks-10 = λ x. asked-10 order x (targetOf order x .number) (target-number order x (targetOf order x) refl);
       back-judged = λ y a p. asked-judged order y (meaningOf a .number) (source-number order y a p);
       back-10 = λ y a p. asked-10 order y (meaningOf a .number) (source-number order y a p);
     }

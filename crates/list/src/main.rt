@@ -6,10 +6,8 @@ use listing::write_listing;
 use order::address::Source;
 use order::address::source_of;
 use plan::make::make_plan;
+use reading::TEXT;
 use reading::read_order;
-
-// More than the longest order text: what follows the buffer can't make a text that is too long right.
-const TEXT: usize = 4096;
 
 // More than the longest listing.
 const ROOM: usize = 32768;

@@ -22,9 +22,17 @@ pub record Buffers : Type 0 where
 abbrev pub buffersOf : List ℕ → List ℕ → List ℕ → Buffers
 buffersOf area0 area1 memory = record { area0 = area0; area1 = area1; memory = memory }
 
--- the lengths of the two areas and of memory are right: N·R bytes each area, M·R bytes memory
+-- N·R, the bytes of an area, which are those of a run
+abbrev pub areaBytes : Geometry → ℕ
+areaBytes g = records g * g .r
+
+-- M·R, the bytes of a memory
+abbrev pub memoryBytes : Geometry → ℕ
+memoryBytes g = memorySize g * g .r
+
+-- the lengths of the two areas and of memory are right
 abbrev pub lengthsFit : Geometry → ℕ → ℕ → ℕ → Bool
-lengthsFit g area0 area1 memory = eqb area0 (records g * g .r) && eqb area1 (records g * g .r) && eqb memory (memorySize g * g .r)
+lengthsFit g area0 area1 memory = eqb area0 (areaBytes g) && eqb area1 (areaBytes g) && eqb memory (memoryBytes g)
 
 -- the lent bytes are of the right lengths
 unfoldable pub buffersFit : Geometry → Buffers → Bool

@@ -7,6 +7,7 @@ use native.Mathlib.Nat.{lt-of-lt-of-le, mod-eq-of-lt, mod-lt}
 use native.Mathlib.Omega.{arith}
 use borrow.Author.Tests.{le-leb, leb-false, lt-leb}
 use lib.Dec.{leb}
+use lib.ListN.{length-take}
 use lib.Pow.{pow-mono, pow-pos}
 use Rattle.bank.specs.Limits.{ROWS}
 use Rattle.bank.proofs.Limits.{limits→allowed}
@@ -14,6 +15,7 @@ use Rattle.bank.specs.Geometry.{records}
 use Rattle.bank.specs.Checks.{refuse, orLater, handed}
 use Rattle.algebra.specs.Matrix.{target, source, singular}
 use Rattle.algebra.specs.Vector.{WORD}
+use Rattle.algebra.proofs.Inverse.{target-lt}
 use Rattle.matrix.specs.Solved.{solvedFor}
 use Rattle.matrix.specs.declared.questions.Solved.{Solved}
 use Rattle.order.specs.Order.{matrixOf, formNumber, judgement}
@@ -73,6 +75,13 @@ module _ (order : Order) (x : ℕ) where
       let m = none-means e in
       (limits→allowed (order .geometry) (judgement→accepted order (m .0) .inside) .n-high, m .1)
 
+  -- and what it gives: an address below N
+  pub sent-below : questionNumber order x ≡ 0 → sentTo order x < 2 ^ order .geometry .n
+  sent-below e =
+      let a = judgement→accepted order (none-means e .0) in
+      target-lt (order .geometry .n) (matrixOf order) (a .regular) (omega (arith, length-take (order .geometry .n) (order .rows))) (order .complement) x
+      (complement-below order (a .form))
+
   -- ---- the answers, by the number
   pub target-refused : (k : ℕ) → k ≡ questionNumber order x → (k ≡ 0 → ⊥)
       → _≡_ {A = Target} (record { number = k; address = record { 0 = 0 } }) (targetOf order x)
@@ -83,6 +92,16 @@ module _ (order : Order) (x : ℕ) where
       → _≡_ {A = Target} (record { number = 0; address = record { 0 = y } }) (targetOf order x)
   unfolding targetOf
   target-given y e q = rw e (ap (λ (k : ℕ). record { number = 0; address = record { 0 = k } }) q)
+
+  -- read off an answer
+  module _ (t : Target) (answer : t ≡ targetOf order x) where
+    pub target-number : t .number ≡ questionNumber order x
+    unfolding targetOf
+    target-number = ap (λ (t : Target). t .number) answer
+
+    pub target-address : questionNumber order x ≡ 0 → t .address .0 ≡ sentTo order x
+    unfolding targetOf
+    target-address e = ap (λ (t : Target). t .address .0) answer ∙ rw e
 
   pub source-refused : (k : ℕ) → k ≡ questionNumber order x → (k ≡ 0 → ⊥) → meaningOf (Refused k) ≡ foundFor order x
   unfolding meaningOf foundFor

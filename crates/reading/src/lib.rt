@@ -16,6 +16,9 @@ use bank::Geometry;
 use bank::ROWS;
 use order::Order;
 
+// More bytes than the longest order text has: what follows so many can't make a text right that is too long.
+pub const TEXT: usize = 4096;
+
 // The number, and the order: zero everywhere where refused.
 pub struct Read {
     pub number: u8,

@@ -3,11 +3,10 @@ use libc::STDOUT_FILENO;
 use listing::listing_size;
 use listing::write_listing;
 use plan::make::make_plan;
+use reading::TEXT;
 use reading::read_order;
 
 // As in `list`.
-const TEXT: usize = 4096;
-
 const ROOM: usize = 32768;
 
 fn answer(text: &[u8]) {

@@ -1,0 +1,120 @@
+-- Why is a run in tray order once every step of its order's plan was sent? By demand 3: all the steps are one run. Assumes nothing.
+use mathlib.Core.Path.{_≡_, sym, ap, _∙_, subst}
+use mathlib.Core.Bool.{true}
+use mathlib.Core.List.{[], _∷_}
+use Prim.Native.Nat.{ℕ, zero, suc, _<_}
+use native.Mathlib.Omega.{arith}
+use lib.ListN.{length}
+use Rattle.bank.specs.Limits.{ROWS}
+use Rattle.bank.specs.declared.Geometry.{Geometry}
+use Rattle.order.specs.declared.Order.{Order}
+use Rattle.order.specs.Order.{judgement}
+use Rattle.planning.specs.declared.Plan.{Plan}
+use Rattle.planning.proofs.Running.{sound→can-run}
+use Rattle.plan.specs.declared.make.Planned.{Planned}
+use Rattle.plan.specs.Answer.{plannedFor}
+use Rattle.plan.proofs.Main.{Makes, made-accepted}
+use Rattle.running.specs.Total.{totalSteps, resultArea}
+use Rattle.moving.specs.Step.{Buffers, areaBytes, buffersOf, buffersFit}
+use Rattle.moving.specs.Call.{Moment, begun, ran}
+use Rattle.moving.proofs.Fits.{Fits, buffersFit→Fits}
+use Rattle.moving.proofs.Calls.{CallReady, can→ready, ran-ready, ready-run, run-count, run-next}
+use Rattle.mover.proofs.Asked.{total-is}
+use Rattle.demands.specs.Chain.{Chain}
+use Rattle.demands.specs.Chain.Called.{allowed}
+use Rattle.demands.specs.Chain.Chain.{noCalls, run}
+use Rattle.demands.specs.Delivers.{areaNamed}
+use Rattle.demands.specs.Mover.{beginning}
+use Rattle.demands.specs.Ours.{ours}
+use Rattle.demands.proofs.Delivers.{ours-delivers}
+use Rattle.demands.proofs.Promised.{runAnswer, run-promised}
+use Rattle.sending.specs.Sent.{askedInTurn}
+use Rattle.sending.proofs.Sent.{sent-is-run}
+use Rattle.delivery.specs.Delivery.{InTrayOrder, allSteps, setInOrder}
+
+-- ---- the area that a number names is one of the two, and as long
+
+result-small : (plan : Plan) → resultArea plan < 2
+unfolding resultArea
+result-small plan = omega arith
+
+named-long : (g : Geometry) (w : Buffers) → Fits g w → (k : ℕ) → k < 2 → length (areaNamed k w) ≡ areaBytes g
+unfolding areaNamed
+named-long g w f zero h = f .area0-long
+named-long g w f (suc zero) h = f .area1-long
+named-long g w f (suc (suc k)) h = absurd (omega arith)
+
+-- ---- what is left to do once the steps were sent: the result lies in area 1 and is to be copied, or it lies in area 0
+
+pub record SetBy (order : Order) (v w : Buffers) (area : ℕ) : Type 0 where
+  pub fits : Fits (order .geometry) w
+  pub first : area ≡ 1 → buffersOf (w .area1) (w .area1) (w .memory) ≡ setInOrder order v
+  pub zeroth : (area ≡ 1 → ⊥) → w ≡ setInOrder order v
+
+-- ---- an order that is taken, on bytes of the right lengths
+
+module _ (order : Order) (room : length (order .rows) ≡ ROWS) (taken : judgement order ≡ 0) (v : Buffers)
+    (fitting : buffersFit (order .geometry) v ≡ true) where
+  abbrev plan : Plan
+  plan = plannedFor order .plan
+
+  abbrev makes : Makes order plan
+  makes = made-accepted order room taken
+
+  plan-fitting : buffersFit (plan .geometry) v ≡ true
+  plan-fitting = subst (λ (g : Geometry). buffersFit g v ≡ true) (sym (makes .on-its-bank)) fitting
+
+  ready : CallReady plan (begun v)
+  ready = can→ready plan (begun v) (sound→can-run plan (begun v .state) (makes .sound-plan) (omega arith)) plan-fitting
+
+  -- all the steps: a chain of one call, which comes to the end
+  abbrev end : Moment
+  end = ran plan (begun v) (totalSteps plan)
+
+  one-run : Chain ours plan (beginning ours v) (allowed (totalSteps plan) (runAnswer plan (begun v) (totalSteps plan)) ∷ []) end
+  one-run = run (totalSteps plan) (runAnswer plan (begun v) (totalSteps plan)) (run-promised plan (begun v) (totalSteps plan)) noCalls
+
+  ends : end .state .next .0 ≡ totalSteps plan
+  ends =
+      omega (
+        arith,
+        run-next plan (begun v) (totalSteps plan),
+        run-count plan (begun v) (totalSteps plan) (ready-run plan (begun v) ready),
+        total-is plan (makes .sound-plan),
+      )
+
+  end-fits : Fits (order .geometry) (allSteps order v)
+  end-fits = subst (λ (g : Geometry). Fits g (end .buffers)) (makes .on-its-bank) (ran-ready plan (begun v) (totalSteps plan) ready .fitting)
+
+  -- the run is in tray order
+  pub set-in-tray-order : InTrayOrder order (v .area0) (setInOrder order v .area0)
+  unfolding setInOrder
+  set-in-tray-order =
+      record {
+        as-long =
+            named-long (order .geometry) (end .buffers) end-fits (resultArea plan) (result-small plan)
+            ∙ sym (buffersFit→Fits (order .geometry) v fitting .area0-long);
+        at-target = ours-delivers .own order room taken .delivers v fitting _ end one-run ends;
+      }
+
+  -- ---- the steps of the plan that was made were sent, each more than once
+
+  module _ (planned : Planned) (made : planned ≡ plannedFor order) (again : ℕ) (w : Buffers)
+      (sent : w ≡ askedInTurn (planned .plan) again (totalSteps (planned .plan)) (begun v) .buffers) where
+    sent-all : w ≡ allSteps order v
+    sent-all =
+        subst (λ (a : Planned). w ≡ askedInTurn (a .plan) again (totalSteps (a .plan)) (begun v) .buffers) made sent
+        ∙ sent-is-run plan v again (makes .sound-plan) plan-fitting
+
+    set-by : (k : ℕ) → resultArea (planned .plan) ≡ k → buffersOf (areaNamed k w) (w .area1) (w .memory) ≡ setInOrder order v
+    unfolding setInOrder
+    set-by k e = rw (← e, made) (ap (λ (u : Buffers). buffersOf (areaNamed (resultArea plan) u) (u .area1) (u .memory)) sent-all)
+
+    pub sent-set : SetBy order v w (resultArea (planned .plan))
+    unfolding areaNamed
+    sent-set =
+        record {
+          fits = subst (Fits (order .geometry)) (sym sent-all) end-fits;
+          first = set-by 1;
+          zeroth = λ ne. set-by 0 (omega (arith, result-small (planned .plan)));
+        }

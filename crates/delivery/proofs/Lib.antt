@@ -1,0 +1,4 @@
+-- The laws that belong to no one function.
+pub mod InOrder
+pub mod Promised
+pub mod Outcome

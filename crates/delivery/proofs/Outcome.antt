@@ -1,0 +1,94 @@
+-- Why has a delivery one outcome, and why is the run in tray order only one? Assumes nothing.
+use mathlib.Core.Path.{_≡_, refl, sym, ap, ap₂, _∙_, subst}
+use mathlib.Core.Bool.{cond}
+use mathlib.Core.List.{List}
+use Prim.Native.Nat.{ℕ, zero, suc, _*_, _/_, _%_, _<_}
+use native.Mathlib.Nat.{div-add-mod', div-lt-iff-lt-mul, mod-lt}
+use native.Mathlib.Omega.{arith}
+use borrow.Author.Tests.{eq-eqb, ne-eqb}
+use lib.Dec.{eqb}
+use lib.ListN.{length, getD, drop}
+use lib.Seq.{ext-getD, getD-drop, getD-take}
+use Rattle.bank.specs.Limits.{ROWS}
+use Rattle.bank.specs.Geometry.{records}
+use Rattle.order.specs.declared.Order.{Order}
+use Rattle.order.specs.Order.{judgement}
+use Rattle.order.proofs.Main.{comes}
+use Rattle.moving.specs.Bytes.{recordOf}
+use Rattle.moving.specs.Step.{Buffers, areaBytes}
+use Rattle.reading.specs.Reading.{Reads, noOrder}
+use Rattle.demands.proofs.Answers.{ours-answers}
+use Rattle.delivery.specs.declared.Delivery.{Delivery}
+use Rattle.delivery.specs.declared.Delivery.the-variants.{Done, Refused, NoRoom}
+use Rattle.delivery.specs.Delivery.{DeliveryPromise, InTrayOrder, afterDelivery, roomFor}
+use Rattle.delivery.specs.Delivery.DeliveryPromise.{unread, no-room, other-length, done}
+use Rattle.delivery.specs.Outcome.{Outcome}
+
+-- ---- one outcome: it is a function of what reading the text gives, and of the bytes
+
+answerBy : ℕ → Order → Buffers → Delivery
+answerBy zero order v =
+    let g = order .geometry in
+    cond (roomFor g v) (cond (eqb (length (v .area0)) (areaBytes g)) Done (Refused 4)) (NoRoom (areaBytes g))
+answerBy (suc k) order v = Refused (suc k)
+
+bytesBy : ℕ → Order → Buffers → Buffers
+bytesBy zero order v =
+    let g = order .geometry in
+    cond (roomFor g v) (cond (eqb (length (v .area0)) (areaBytes g)) (afterDelivery order v) v) v
+bytesBy (suc k) order v = v
+
+-- what a promise says
+record Decided (text : List ℕ) (v : Buffers) (answer : Delivery) (w : Buffers) : Type 0 where
+  number : ℕ
+  order : Order
+  read : Reads text number order
+  answered : answer ≡ answerBy number order v
+  bytes : w ≡ bytesBy number order v
+
+decided : {text : List ℕ} {v : Buffers} {answer : Delivery} {w : Buffers} → DeliveryPromise text v answer w → Decided text v answer w
+unfolding answerBy bytesBy
+decided (unread k r) = record { number = suc k; order = noOrder; read = r; answered = refl; bytes = refl }
+decided (no-room order r e) = record { number = 0; order = order; read = r; answered = rw e; bytes = rw e }
+decided {v = v} (other-length order r e ne) =
+    let n = ne-eqb (length (v .area0)) (areaBytes (order .geometry)) ne in
+    record { number = 0; order = order; read = r; answered = rw (e, n); bytes = rw (e, n) }
+decided {v = v} (done order r e long set) =
+    let n = eq-eqb (length (v .area0)) (areaBytes (order .geometry)) long in
+    record { number = 0; order = order; read = r; answered = rw (e, n); bytes = rw (e, n) }
+
+one : (text : List ℕ) (v : Buffers) (answer answer′ : Delivery) (w w′ : Buffers)
+    → DeliveryPromise text v answer w → DeliveryPromise text v answer′ w′ → (answer ≡ answer′) × (w ≡ w′)
+one text v answer answer′ w w′ p p′ =
+    let a = decided p in
+    let b = decided p′ in
+    let e = ours-answers .read-one text (a .number) (b .number) (a .order) (b .order) (a .read) (b .read) in (
+      a .answered ∙ ap₂ (λ (k : ℕ) (o : Order). answerBy k o v) (e .0) (e .1) ∙ sym (b .answered),
+      a .bytes ∙ ap₂ (λ (k : ℕ) (o : Order). bytesBy k o v) (e .0) (e .1) ∙ sym (b .bytes),
+    )
+
+-- ---- one order: two runs of N records of r bytes are equal where their records are
+
+byte-of-record : (r : ℕ) (l : List ℕ) (i : ℕ) → 0 < r → getD (recordOf r l (i / r)) (i % r) 0 ≡ getD l i 0
+byte-of-record r l i h =
+    getD-take r (drop (i / r * r) l) (i % r) 0 (mod-lt i h) ∙ getD-drop (i / r * r) l (i % r) 0 ∙ ap (λ (j : ℕ). getD l j 0) (div-add-mod' i r)
+
+same-records : (r N : ℕ) (l k : List ℕ) → length l ≡ N * r → length k ≡ N * r → ((y : ℕ) → y < N → recordOf r l y ≡ recordOf r k y) → l ≡ k
+same-records zero N l k el ek h = ext-getD 0 l k (el ∙ sym ek) (λ i b. absurd (omega arith))
+same-records (suc r) N l k el ek h =
+    ext-getD 0 l k (el ∙ sym ek)
+    (λ i b. let q : i < N * suc r = subst (λ (n : ℕ). i < n) el b in
+    let p : 0 < suc r = omega arith in
+    sym (byte-of-record (suc r) l i p) ∙ ap (λ (x : List ℕ). getD x (i % suc r) 0) (h (i / suc r) (div-lt-iff-lt-mul p .1 q)) ∙ byte-of-record (suc r) k i p)
+
+one-order : (order : Order) → length (order .rows) ≡ ROWS → judgement order ≡ 0 → (before after after′ : List ℕ)
+    → length before ≡ areaBytes (order .geometry) → InTrayOrder order before after → InTrayOrder order before after′ → after ≡ after′
+one-order order room taken before after after′ long a b =
+    let g = order .geometry in
+    same-records (g .r) (records g) after after′ (a .as-long ∙ long) (b .as-long ∙ long)
+    (λ y h. let c = comes order room taken y h in
+    ap (recordOf (g .r) after) (sym (c .goes)) ∙ a .at-target (c .from) (c .below)
+    ∙ sym (b .at-target (c .from) (c .below)) ∙ ap (recordOf (g .r) after′) (c .goes))
+
+pub delivery-outcome : Outcome
+delivery-outcome = record { one = one; one-order = one-order }

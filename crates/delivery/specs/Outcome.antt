@@ -1,0 +1,19 @@
+-- Has a delivery one outcome, and is the run in tray order only one? Assumes nothing.
+use mathlib.Core.Path.{_≡_}
+use mathlib.Core.List.{List}
+use Prim.Native.Nat.{ℕ}
+use lib.ListN.{length}
+use Rattle.bank.specs.Limits.{ROWS}
+use Rattle.order.specs.declared.Order.{Order}
+use Rattle.order.specs.Order.{judgement}
+use Rattle.moving.specs.Step.{Buffers, areaBytes}
+use Rattle.delivery.specs.declared.Delivery.{Delivery}
+use Rattle.delivery.specs.Delivery.{InTrayOrder, DeliveryPromise}
+
+pub record Outcome : Type 0 where
+  -- the promise admits one answer, and one end of every lent byte
+  pub one : (text : List ℕ) (v : Buffers) (answer answer′ : Delivery) (w w′ : Buffers)
+      → DeliveryPromise text v answer w → DeliveryPromise text v answer′ w′ → (answer ≡ answer′) × (w ≡ w′)
+  -- an accepted order sets a run of N·R bytes in one order only
+  pub one-order : (order : Order) → length (order .rows) ≡ ROWS → judgement order ≡ 0 → (before after after′ : List ℕ)
+      → length before ≡ areaBytes (order .geometry) → InTrayOrder order before after → InTrayOrder order before after′ → after ≡ after′

@@ -1,0 +1,104 @@
+// A run is set in tray order on lent bytes: its order text is read, planned, and every step of the plan sent.
+ghost use mathlib.Core.Path.{_≡_};
+ghost use mathlib.Core.Bool.{true};
+ghost use lib.ListN.{length};
+ghost use Rattle.bank.specs.Limits.{ROWS};
+ghost use Rattle.bank.specs.Geometry.{inLimits};
+ghost use Rattle.order.specs.Order.{judgement};
+ghost use Rattle.moving.specs.Step.{buffersOf, areaBytes, memoryBytes, buffersFit};
+ghost use Rattle.delivery.specs.Delivery.{setInOrder, DeliveryPromise};
+use bank::Geometry;
+use bank::power;
+use bank::wide;
+use blocks::bytes::copy_into;
+use order::Order;
+use plan::make::make_plan;
+use reading::read_order;
+use running::result_area;
+use sending::progress::Progress;
+use sending::send_all;
+
+// Done; refused by a number; or the run, of so many bytes, has no room in the buffers.
+pub enum Delivery {
+    Done,
+    Refused(u8),
+    NoRoom(u64),
+}
+
+// N·R, the bytes of an area, which are those of a run.
+fn area_bytes(g: Geometry) -> u64
+    requires { ⌜ inLimits g ≡ true ⌝ }
+    ensures { λ r. ⌜ r ≡ areaBytes g ⌝ }
+{
+    power(g.n) * wide(g.r)
+}
+
+// M·R, the bytes of a memory.
+fn memory_bytes(g: Geometry) -> u64
+    requires { ⌜ inLimits g ≡ true ⌝ }
+    ensures { λ r. ⌜ r ≡ memoryBytes g ⌝ }
+{
+    power(g.m) * wide(g.r)
+}
+
+// Every step of the order's plan is sent, and the result, where it lies in area 1, goes to area 0 too.
+fn set_in_order(
+    order: Order,
+    again: u64,
+    progress: Progress,
+    area0: &mut [u8],
+    area1: &mut [u8],
+    memory: &mut [u8],
+)
+    requires { ⌜ (judgement order ≡ 0) × (length (order .rows) ≡ ROWS) ⌝ }
+    requires { ⌜ buffersFit (order .geometry) (buffersOf (now area0) (now area1) (now memory)) ≡ true ⌝ }
+    ensures { λ _. ⌜ buffersOf (now (area0 .exit)) (now (area1 .exit)) (now (memory .exit))
+        ≡ setInOrder order (buffersOf (now (area0 .entry)) (now (area1 .entry)) (now (memory .entry))) ⌝ }
+{
+    let planned = make_plan(order);
+    let plan = planned.plan;
+    send_all(plan, again, progress, area0, area1, memory);
+    if result_area(plan) == 1 {
+        copy_into(area0, area1);
+    }
+}
+
+// The run in tray order, every step sent so many times more; or a refusal, which changes nothing.
+pub fn deliver(
+    text: &[u8],
+    again: u64,
+    progress: Progress,
+    run: &mut [u8],
+    spare: &mut [u8],
+    memory: &mut [u8],
+) -> Delivery
+    ensures { λ r. ⌜ DeliveryPromise (now (text .entry)) (buffersOf (now (run .entry)) (now (spare .entry)) (now (memory .entry))) r
+        (buffersOf (now (run .exit)) (now (spare .exit)) (now (memory .exit))) ⌝ }
+{
+    let read = read_order(text);
+    if read.number != 0 {
+        return Delivery::Refused(read.number);
+    }
+    let order = read.order;
+    let g = order.geometry;
+    let size = area_bytes(g) as usize;
+    let room = memory_bytes(g) as usize;
+    if spare.len() < size {
+        return Delivery::NoRoom(size as u64);
+    }
+    if memory.len() < room {
+        return Delivery::NoRoom(size as u64);
+    }
+    if run.len() != size {
+        return Delivery::Refused(4);
+    }
+    set_in_order(
+        order,
+        again,
+        progress,
+        run,
+        &mut spare[0..size],
+        &mut memory[0..room],
+    );
+    Delivery::Done
+}

@@ -1,0 +1,54 @@
+// The lines on standard error.
+use libc::STDERR_FILENO;
+
+fn words(w: &[u8]) {
+    io::write_all(STDERR_FILENO, w);
+}
+
+fn count(n: u64) {
+    io::print_decimal(STDERR_FILENO, n);
+}
+
+// How to call it, to the end of the line.
+fn call() {
+    words(
+        b": tray ORDER [AGAIN] < RECORDS > TRAYS, where ORDER is a file with an order text and AGAIN a number of at most 10 digits\n",
+    );
+}
+
+pub(crate) fn missing() {
+    words(b"no order is named");
+    call();
+}
+
+pub(crate) fn too_many() {
+    words(b"too many words");
+    call();
+}
+
+pub(crate) fn no_number() {
+    words(b"AGAIN is no number");
+    call();
+}
+
+pub(crate) fn not_opened(path: &[u8]) {
+    words(path);
+    words(b" can't be opened");
+    call();
+}
+
+pub(crate) fn refused(number: u8) {
+    words(b"refused ");
+    count(number as u64);
+    words(b"\n");
+}
+
+pub(crate) fn no_room(size: u64, area: u64, memory: u64) {
+    words(b"the run has ");
+    count(size);
+    words(b" bytes and doesn't fit: tray has ");
+    count(area);
+    words(b" bytes an area and ");
+    count(memory);
+    words(b" bytes of memory\n");
+}

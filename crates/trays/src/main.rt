@@ -1,0 +1,107 @@
+// Makes the deliveries that the arguments name, three words each: an order text, a run, and how often each step is sent again.
+// Writes for each its words, and then the run in tray order, or the line that says why there is none.
+ghost use Rattle.io.specs.Counts.{Counts};
+use delivery::Delivery;
+use delivery::deliver;
+use libc::STDOUT_FILENO;
+use reading::TEXT;
+use sending::progress::Progress;
+use words::Word;
+use words::read_number;
+
+// The most bytes of a run and of its memory, and a run with one byte by which to see that more came.
+const AREA: usize = 65536;
+
+const MEMORY: usize = AREA / 2;
+
+const INPUT: usize = AREA + 1;
+
+fn words(w: &[u8]) {
+    io::write_all(STDOUT_FILENO, w);
+}
+
+fn count(n: u64) {
+    io::print_decimal(STDOUT_FILENO, n);
+}
+
+// The file that an argument names, read to its end or until there is no room: how many bytes came.
+fn file(which: usize, into: &mut [u8]) -> usize
+    ensures { λ r. ⌜ Counts r (now (into .exit)) ⌝ }
+{
+    let mut path = io::buffer();
+    let length = os::arg(which, &mut path);
+    words(&path[..length]);
+    words(b" ");
+    let fd = os::open_read(&path[..length]);
+    if fd < 0 {
+        os::fail(&path[..length]);
+        return 0;
+    }
+    let came = io::read_full(fd, into);
+    libc::close(fd);
+    came
+}
+
+fn answer(text: &[u8], again: u64, run: &mut [u8], spare: &mut [u8], memory: &mut [u8]) {
+    let delivery = deliver(text, again, Progress::Silent, run, spare, memory);
+    match delivery {
+        Delivery::Done => {
+            words(run);
+        }
+        Delivery::Refused(k) => {
+            words(b"refused ");
+            count(k as u64);
+            words(b"\n");
+        }
+        Delivery::NoRoom(size) => {
+            words(b"no room for ");
+            count(size);
+            words(b"\n");
+        }
+    }
+}
+
+// How often each step is sent again, by an argument that is a number.
+fn times(which: usize) -> u64 {
+    let mut word = io::buffer();
+    let length = os::arg(which, &mut word);
+    words(&word[..length]);
+    words(b"\n");
+    let Word::Number(k) = read_number(&word[..length]) else {
+        return 0;
+    };
+    k
+}
+
+fn one(
+    order: usize,
+    input: usize,
+    again: usize,
+    run: &mut [u8],
+    spare: &mut [u8],
+    memory: &mut [u8],
+) {
+    let mut text = [0u8; TEXT];
+    let n = file(order, &mut text);
+    let came = file(input, run);
+    let k = times(again);
+    answer(&text[..n], k, &mut run[..came], spare, memory);
+}
+
+// Three words after three words. Lent by their types, the buffers need no proof of their lengths.
+fn all(run: &mut [u8; INPUT], spare: &mut [u8; AREA], memory: &mut [u8; MEMORY]) {
+    let deliveries = os::arg_count() / 3;
+    let mut i = 0;
+    while i < deliveries {
+        let k = i * 3;
+        one(k + 1, k + 2, k + 3, run, spare, memory);
+        i += 1;
+    }
+}
+
+fn main() {
+    let mut run = [0u8; INPUT];
+    let mut spare = [0u8; AREA];
+    let mut memory = [0u8; MEMORY];
+    all(&mut run, &mut spare, &mut memory);
+}
