@@ -1,9 +1,10 @@
 -- What does a geometry inside the limits give a proof? Assumes nothing.
 use mathlib.Core.Path.{_≡_, refl}
 use mathlib.Core.Bool.{Bool, true, false, _&&_}
-use Prim.Native.Nat.{_+_, _-_, _<_, _≤_}
+use Prim.Native.Nat.{ℕ, _+_, _-_, _*_, _<_, _≤_}
 use lib.Dec.{ltb, leb}
 use native.Mathlib.Omega.{arith}
+use native.Mathlib.Nat.{mul-le-mul}
 use Rattle.algebra.specs.Vector.{WORD}
 use borrow.Author.Tests.{ltb-true, leb-true, lt-ltb, le-leb}
 use Rattle.algebra.proofs.Search.{and-l, and-r}
@@ -96,3 +97,7 @@ module _ (g : Geometry) (e : inLimits g ≡ true) where
   m-room = omega (arith, limits→allowed g e)
 
 pub ruleset limits = (n-shift, b-shift, d-shift, m-shift, m-b-shift, b-word, b-under-m, n-room, m-room)
+
+-- n + 1 lines of n + 1 bytes are no more than those of the most rows
+pub square-small : (n : ℕ) → n ≤ ROWS → (n + 1) * (n + 1) ≤ (ROWS + 1) * (ROWS + 1)
+square-small n h = mul-le-mul {n₁ = n + 1} {m₁ = n + 1} {n₂ = ROWS + 1} {m₂ = ROWS + 1} (omega arith) (omega arith)

@@ -5,16 +5,16 @@ ghost use Prim.Native.Nat.{_<_, _^_};
 ghost use Rattle.bank.specs.Geometry.{inLimits};
 
 // The most bits that an address has, and so the most rows of a matrix.
-pub const ROWS: usize = 24;
+pub const ROWS: usize = 32;
 
 // The most passes that a plan holds.
-pub const PASSES: usize = 13;
+pub const PASSES: usize = 17;
 
 // The places for rows in a plan.
 pub const PLACES: usize = PASSES * ROWS;
 
 // The most bytes of a record.
-const BYTES: u32 = 64;
+const BYTES: u32 = 256;
 
 // The bits of a word, in which a vector is kept.
 pub const WORD: u32 = 32;

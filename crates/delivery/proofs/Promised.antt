@@ -8,36 +8,19 @@ use borrow.Author.Tests.{le-leb, lt-leb}
 use lib.Dec.{leb}
 use lib.ListN.{length, take, drop}
 use lib.Seq.{length-take-le}
-use Rattle.bank.specs.Limits.{ROWS}
 use Rattle.bank.specs.declared.Geometry.{Geometry}
-use Rattle.bank.specs.Geometry.{inLimits}
 use Rattle.order.specs.declared.Order.{Order}
-use Rattle.order.specs.Order.{judgement}
-use Rattle.order.proofs.Accepted.{judgement→accepted}
 use Rattle.moving.specs.Step.{Buffers, areaBytes, memoryBytes, buffersOf, buffersFit}
 use Rattle.moving.proofs.Fits.{Fits→buffersFit}
 use Rattle.reading.specs.Reading.{Reads}
-use Rattle.reading.specs.Reading.Reads.{no-first-line, outside, no-rest, singular, taken}
+use Rattle.reading.proofs.Main.{read-taken}
 use Rattle.demands.proofs.Answers.{ours-answers}
 use Rattle.delivery.proofs.InOrder.{set-in-tray-order}
 use Rattle.delivery.specs.declared.Delivery.the-variants.{Done, Refused, NoRoom}
 use Rattle.delivery.specs.Delivery.{DeliveryPromise, afterDelivery, partsOf, roomFor, setInOrder}
 use Rattle.delivery.specs.Delivery.DeliveryPromise.{unread, no-room, other-length, done}
 
--- ---- a text that is read
-
--- what its order is
-pub record Taken (order : Order) : Type 0 where
-  pub judged : judgement order ≡ 0
-  pub room : length (order .rows) ≡ ROWS
-  pub inside : inLimits (order .geometry) ≡ true
-
-pub read-taken : {text : List ℕ} {k : ℕ} {order : Order} → Reads text k order → k ≡ 0 → Taken order
-read-taken (no-first-line h) e = absurd (omega arith)
-read-taken (outside g b l) e = absurd (omega arith)
-read-taken (no-rest g b l h) e = absurd (omega arith)
-read-taken (singular g order b l w j) e = absurd (omega arith)
-read-taken (taken g order b l w j) e = record { judged = j; room = w .room; inside = judgement→accepted order j .inside }
+-- ---- a text that is refused
 
 pub unread-promise : (text : List ℕ) (v : Buffers) (k : ℕ) (order : Order) → Reads text k order → (k ≡ 0 → ⊥) → DeliveryPromise text v (Refused k) v
 unread-promise text v zero order r ne = absurd (ne refl)

@@ -1,9 +1,8 @@
 -- Has each of our calls one outcome, and what does a refusal hand back and leave? Our mover has demand 1. Assumes nothing.
 use mathlib.Core.Path.{_≡_, refl, sym, ap, _∙_}
 use mathlib.Core.List.{List, []}
-use Prim.Native.Nat.{ℕ, zero, suc, _+_, _-_, min}
+use Prim.Native.Nat.{ℕ, zero, suc, _+_, _-_, _<_, min}
 use native.Mathlib.Omega.{arith}
-use borrow.Author.Tests.{le-leb, lt-leb}
 use lib.ListN.{length}
 use Rattle.algebra.specs.Matrix.{source}
 use Rattle.order.specs.declared.Order.{Order}
@@ -18,13 +17,16 @@ use Rattle.planning.specs.declared.state.State.{State}
 use Rattle.plan.specs.declared.make.Planned.{Planned}
 use Rattle.plan.specs.Answer.{plannedFor}
 use Rattle.plan.proofs.Answered.{planned-refused}
+use Rattle.plan.proofs.Main.{made-accepted}
 use Rattle.moving.specs.Call.{Moment, ran, stepped}
 use Rattle.moving.proofs.Calls.{nine-state, run-count, run-next, run-ready, step-done}
 use Rattle.mover.proofs.Asked.{total-is}
-use Rattle.listing.specs.Listing.{listing, roomAfter, written}
+use Rattle.listing.specs.Listing.{headLines, listing}
+use Rattle.listing.proofs.Passes.{has-room, listing-parts, no-room}
 use Rattle.reading.specs.Reading.{Reads, noOrder}
 use Rattle.reading.specs.Reading.Reads.{no-first-line, outside, no-rest, singular, taken}
-use Rattle.reading.proofs.Main.{one-reading, some-reading}
+use Rattle.reading.proofs.First.{read-first}
+use Rattle.reading.proofs.Main.{one-reading, read-taken, some-reading}
 use Rattle.demands.specs.Ours.{ours}
 use Rattle.demands.specs.Answers.{Answers, Refusal}
 use Rattle.demands.proofs.Numbers.{ours-numbers}
@@ -52,8 +54,15 @@ refused-empty (no-rest g b e h) f = refl
 refused-empty (singular g order b e w j) f = refl
 refused-empty (taken g order b e w j) f = absurd (f refl)
 
+-- the plan of an order that is taken can run, and has the first lines of a listing
+something-listed : (text : List ℕ) (order : Order) → Reads text 0 order → 0 < length (listing (plannedFor order .plan))
+unfolding headLines
+something-listed text order r =
+    let t = read-taken r refl in
+    rw (listing-parts (plannedFor order .plan) (made-accepted order (t .room) (t .judged) .sound-plan)) (omega arith)
+
 pub ours-answers : Answers ours
-unfolding targetOf plannedFor written roomAfter
+unfolding targetOf plannedFor
 ours-answers =
     record {
       numbered = ours-numbers;
@@ -87,6 +96,8 @@ ours-answers =
       read-refused = λ text k order r f. refused-empty r f;
       read-some = some-reading;
       read-one = one-reading;
-      listing-whole = λ plan room h. let e = le-leb (length (listing plan)) (length room) h in (rw e, rw e);
-      listing-none = λ plan room h. let e = lt-leb (length (listing plan)) (length room) h in (rw e, rw e);
+      read-first = read-first;
+      listing-whole = has-room;
+      listing-none = λ plan room h. let e = no-room plan room h in (sym (e .0), sym (e .1));
+      listing-some = something-listed;
     }

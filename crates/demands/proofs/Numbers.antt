@@ -21,7 +21,7 @@ use Rattle.mover.specs.declared.run.Ran.{Ran}
 use Rattle.mover.specs.Promise.{numberOf}
 use Rattle.reading.specs.Reading.{Reads, Whole}
 use Rattle.reading.specs.Reading.Reads.{no-first-line, outside, no-rest, singular, taken}
-use Rattle.reading.proofs.Main.{one-reading, only-text, read-written}
+use Rattle.reading.proofs.Main.{one-reading, read-taken, read-written}
 use Rattle.demands.specs.Ours.{ours}
 use Rattle.demands.specs.Numbers.{Asked, Inside, Numbers, Outside, Ready, RunNumbers, StepNumbers, TextNumbers, Unreadable}
 use Rattle.demands.proofs.Promised.{step-number}
@@ -142,5 +142,5 @@ ours-numbers =
       of-run = λ plan m q r w p. run-numbers plan m r (p .number);
       of-text = text-numbers;
       reads-own = λ order room e. read-written order e room;
-      only-own = only-text;
+      only-own = λ text order r. read-taken r refl .is;
     }

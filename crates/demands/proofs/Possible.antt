@@ -1,15 +1,13 @@
 -- Why do the demands speak of something? An order that moves something is taken, and a chain with repeats and refused calls
 -- comes to the end. Assumes nothing.
 use mathlib.Core.Path.{_≡_, refl, sym, ap, _∙_, subst}
-use mathlib.Core.Bool.{true, false, cond, not, _&&_}
-use mathlib.Core.Logic.{⊎-elim}
+use mathlib.Core.Bool.{true, false, cond}
 use mathlib.Core.List.{List, [], _∷_, _++_}
 use Prim.Native.Nat.{ℕ, zero, suc, _+_, _-_, _^_, _≤_, _<_}
 use native.Mathlib.Nat.{le-refl}
 use native.Mathlib.Omega.{arith}
-use borrow.Author.Tests.{eq-eqb, le-leb, lt-leb}
 use lib.Bits.{bitXor}
-use lib.Dec.{eqb, leb}
+use lib.Dec.{eqb}
 use lib.ListN.{getD, take, replicate, List·getD-append}
 use lib.Pow.{pow-lt}
 use lib.Seq.{take-append-seam, getD-append-add}
@@ -18,13 +16,12 @@ use Rattle.bank.specs.declared.Geometry.{Geometry}
 use Rattle.bank.specs.Geometry.{inLimits, records}
 use Rattle.bank.proofs.Limits.{limits→allowed}
 use Rattle.algebra.specs.Matrix.{identity, singular, target}
-use Rattle.algebra.proofs.Search.{none-intro, le-or-lt}
 use Rattle.algebra.proofs.Lists.{getD-zeros}
 use Rattle.algebra.proofs.Linear.{apply-zero}
 use Rattle.algebra.proofs.Singular.{identity-regular}
 use Rattle.algebra.proofs.Columns.{identity-at, identity-length}
-use Rattle.order.specs.Order.{matrixOf, badForm, judgement, strayRow, strayComplement, spareRow}
-use Rattle.order.proofs.Judged.{regular-none}
+use Rattle.order.specs.Order.{matrixOf, badForm, judgement}
+use Rattle.order.proofs.Judged.{good-form, regular-none}
 use Rattle.planning.specs.declared.Plan.{Plan}
 use Rattle.moving.specs.Step.{Buffers, buffersFit}
 use Rattle.moving.specs.Call.{Moment}
@@ -60,23 +57,9 @@ module _ (g : Geometry) where
 
   module _ (inside : inLimits g ≡ true) where
     flip-form : badForm (flipOrder g) ≡ false
-    unfolding badForm strayRow strayComplement spareRow
     flip-form =
-        rw (
-          none-intro (λ i. leb (records g) (getD (flipOrder g .rows) i 0)) (g .n) row,
-          lt-leb (records g) 1 (pow-lt {i = 0} (omega (arith, limits→allowed g inside .n-low))),
-          none-intro (λ i. leb (g .n) i && not (eqb (getD (flipOrder g .rows) i 0) 0)) ROWS (λ i h. spare i),
-        )
-      where
-        row : (i : ℕ) → i < g .n → leb (records g) (getD (flipOrder g .rows) i 0) ≡ false
-        row i h = lt-leb (records g) (getD (flipOrder g .rows) i 0) (subst (λ (k : ℕ). k < records g) (sym (flip-row i h)) (pow-lt h))
-
-        spare : (i : ℕ) → leb (g .n) i && not (eqb (getD (flipOrder g .rows) i 0) 0) ≡ false
-        spare i =
-            ⊎-elim
-            (λ (h : g .n ≤ i). rw (le-leb (g .n) i h, eq-eqb (getD (flipOrder g .rows) i 0) 0 (flip-spare i h)))
-            (λ (h : i < g .n). rw (lt-leb (g .n) i h))
-            (le-or-lt (g .n) i)
+        good-form (flipOrder g) (λ i h. subst (λ (k : ℕ). k < records g) (sym (flip-row i h)) (pow-lt h))
+        (pow-lt {i = 0} (omega (arith, limits→allowed g inside .n-low))) (λ i h l. flip-spare i h)
 
     flip-taken : judgement (flipOrder g) ≡ 0
     flip-taken = regular-none (flipOrder g) inside flip-form (ap (singular (g .n)) flip-matrix ∙ identity-regular (g .n))

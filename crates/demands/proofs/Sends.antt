@@ -1,6 +1,6 @@
 -- Which orders does our mover take, and where does it send an address? Our mover has demand 2. Assumes nothing.
 use mathlib.Core.Path.{_≡_, refl, sym, ap, _∙_, subst}
-use mathlib.Core.Bool.{Bool, true, false, cond}
+use mathlib.Core.Bool.{Bool, true, false, cond, true≢false}
 use mathlib.Core.Logic.{_↔_, _⊎_, inl, inr}
 use Prim.Native.Nat.{ℕ, _<_, _≤_}
 use native.Mathlib.Omega.{arith}
@@ -15,7 +15,7 @@ use Rattle.order.specs.declared.address.Source.{Source}
 use Rattle.order.specs.Order.{badForm, judgement, matrixOf}
 use Rattle.order.specs.Address.{Found, foundFor, meaningOf, questionNumber, targetOf}
 use Rattle.order.proofs.Asked.{number-none, number-order, number-ten, target-number}
-use Rattle.order.proofs.Judged.{formless, outside-limits, regular-none, singular-three}
+use Rattle.order.proofs.Judged.{formless, outside-limits, regular-none, singular-three, word-form}
 use Rattle.order.proofs.Main.{comes, sends, shared-target→three, three→shared-target}
 use Rattle.demands.specs.Ours.{ours}
 use Rattle.demands.specs.Answers.{Refusal}
@@ -105,13 +105,15 @@ module _ (order : Order) where
 pub ours-sends : Sends ours
 ours-sends order room =
     let gives = exactly (orderDue order) refl (order-due order) in
+    let gives-2 = gives 2 (λ d. formless order (d .0) (d .1)) in
     record {
       sends = sends order room;
       returns = only-source order room;
       gives-3 = gives 3 (shared-three order);
       gives-1 = gives 1 (outside-limits order);
-      gives-2 = gives 2 (λ d. formless order (d .0) (d .1));
+      gives-2 = gives-2;
       gives-0 = gives 0 (apart-taken order);
+      never-2 = λ w n e. true≢false (sym (gives-2 .0 e .1) ∙ word-form order w n);
       asks-judged = λ x. asked-judged order x (targetOf order x .number) (target-number order x (targetOf order x) refl);
       asks-10 = λ x. asked-10 order x (targetOf order x .number) (target-number order x (targetOf order x) refl);
       back-judged = λ y a p. asked-judged order y (meaningOf a .number) (source-number order y a p);

@@ -1,19 +1,29 @@
 -- Why is each useless mover shut out? By one small order. Assumes nothing.
 use mathlib.Core.Path.{_≡_, refl, sym, ap, _∙_, subst}
 use mathlib.Core.List.{List, [], _∷_}
-use Prim.Native.Nat.{ℕ, _<_}
+use Prim.Native.Nat.{ℕ, _<_, _^_}
 use native.Mathlib.Omega.{arith}
-use lib.ListN.{getD}
+use native.Mathlib.Nat.{mod-lt}
+use lib.Dec.{lit<}
+use lib.ListN.{getD, replicate}
+use Rattle.bank.specs.Limits.{ROWS}
+use Rattle.bank.specs.declared.Geometry.{Geometry}
 use Rattle.bank.specs.Checks.{handed}
-use Rattle.bank.specs.Geometry.{tierAt, tiers}
+use Rattle.bank.specs.Geometry.{inLimits, tierAt, tiers}
 use Rattle.algebra.specs.Search.{least, leastFrom, anyBelow}
+use Rattle.algebra.specs.Vector.{WORD, unitVectors}
+use Rattle.algebra.specs.Matrix.{identity}
+use Rattle.algebra.proofs.Lists.{getD-zeros}
 use Rattle.order.specs.declared.address.Target.{Target}
+use Rattle.order.specs.Order.{Words}
 use Rattle.order.specs.Address.{questionNumber}
 use Rattle.order.proofs.Asked.{number-none}
 use Rattle.planning.specs.Pass.{loadSteps, passSteps, phases}
 use Rattle.planning.specs.State.{freshState}
 use Rattle.planning.specs.Stored.{routeOf}
-use Rattle.running.specs.Total.{resultArea}
+use Rattle.planning.proofs.Running.{sound→runs}
+use Rattle.planning.proofs.Stored.{route-length}
+use Rattle.running.specs.Total.{resultArea, totalSteps}
 use Rattle.moving.specs.Bytes.{copied, each, eachFrom, recordOf}
 use Rattle.moving.specs.Number.{loadOf, passOf, phaseOf}
 use Rattle.moving.specs.Step.{Buffers, readFrom}
@@ -26,11 +36,13 @@ use Rattle.demands.specs.Chain.Called.{allowed}
 use Rattle.demands.specs.Chain.Chain.{noCalls, run}
 use Rattle.demands.specs.Delivers.{Carries, Delivered, Delivers, Reached, areaNamed}
 use Rattle.demands.specs.Mover.{Mover, beginning}
+use Rattle.demands.specs.Possible.{flipOrder}
 use Rattle.demands.specs.OneStep.{MoveMade, ReadStep}
 use Rattle.demands.specs.Repeats.{quiet}
 use Rattle.demands.specs.Sends.{Sends}
 use Rattle.demands.specs.Useless.{Broken, beginsAtOne, inventsTotals, movesAll, movesNothing, otherArea, readsWholeLoad, refusesAll}
-use Rattle.demands.specs.Useless.{refusesRuns, refusesSteps, stepsMoveNothing, takesIdentityAlone, toItself, toZero}
+use Rattle.demands.specs.Useless.{refusesRuns, refusesSteps, stepsMoveNothing, takesIdentityAlone, toItself, toZero, wrapsSize, wrapsTotals}
+use Rattle.demands.proofs.Possible.{possible}
 use Rattle.demands.proofs.Sends.{ours-sends}
 use Rattle.demands.proofs.Small.{small, small-taken, sent-0, plan, small-plan, small-sound, small-runs, eight, holding, start, end, atStep, start-fits}
 use Rattle.demands.proofs.Small.{moved-all, ended, run-promised, reads-first, tier-first, step-promised, again-promised}
@@ -63,6 +75,29 @@ module _ (M : Mover) (h : Delivers M) where
   first-read : (l : 0 < M .total plan) → ReadStep M plan 0 (carried .one-block 0 l .blockOn)
   first-read l = carried .one-block 0 l .reading reads-first
 
+-- ---- where numbers don't fit in a word: n is ROWS, a block is one record, on one drive
+
+abbrev widest : Geometry
+widest = record { n = ROWS; b = 0; d = 0; m = 1; r = 1 }
+
+no-wrapped-size : Sends wrapsSize → ⊥
+unfolding inLimits
+no-wrapped-size h = h (record { geometry = widest; rows = replicate ROWS 0; complement = 0 }) refl .never-2 words refl refl
+  where
+    words : Words (record { geometry = widest; rows = replicate ROWS 0; complement = 0 })
+    words = record { row = λ i. rw (getD-zeros ROWS i) (lit< tt); complement = lit< tt }
+
+no-wrapped-total : Delivers wrapsTotals → ⊥
+unfolding inLimits identity unitVectors
+no-wrapped-total h =
+    let flip = flipOrder widest in
+    let own = h .own flip refl (possible .taken widest refl) in
+    let made = wrapsTotals .plans flip .plan in
+    let runs = sound→runs made (own .runs .room) (own .runs .can-run) in
+    let steps = rw (own .on-its-bank) at (h .carries made (own .runs) .steps) in
+    let below = mod-lt (totalSteps made) {m = 2 ^ WORD} (lit< tt) in
+    omega (arith, steps, below, runs .some-pass, route-length made)
+
 -- ---- each of them
 
 pub broken : Broken
@@ -74,6 +109,7 @@ broken =
       toZero-fails = λ h. omega (arith, must-send toZero h small-taken);
       toItself-fails = λ h. omega (arith, sym (ap {B = ℕ} (λ k. handed k 0 0) small-asked) ∙ must-send toItself h small-taken);
       takesIdentityAlone-fails = λ h. omega (arith, sym (ap {B = ℕ} (λ k. handed k 3 k) small-taken) ∙ must-take takesIdentityAlone h);
+      wrapsSize-fails = no-wrapped-size;
       -- there is 0 in area 1 where nothing moved, and 2 in area 0
       movesNothing-fails = λ h. omega (arith, must-deliver movesNothing h small-taken small-plan eight start (end, run-promised, refl));
       otherArea-fails = λ h. omega (arith, must-deliver otherArea h small-taken small-plan eight end run-promised);
@@ -93,6 +129,7 @@ broken =
           let same = read .looks (begun (holding 0 0)) (begun (holding 1 0)) (holding 0 0) (holding 1 0) (idle 0) (idle 1) (λ j q. refl) in
           omega (arith, same 0 (omega arith) (sym tier-first));
       inventsTotals-fails = λ h. omega (arith, eight, carried inventsTotals h .steps);
+      wrapsTotals-fails = no-wrapped-total;
       beginsAtOne-fails = λ h. omega (arith, no-calls beginsAtOne h .counted);
       -- right after step 0 was done
       refusesRepeats-fails = λ h.

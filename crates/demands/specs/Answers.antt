@@ -4,7 +4,7 @@ use mathlib.Core.Path.{_≡_}
 use mathlib.Core.Bool.{true}
 use mathlib.Core.List.{List, [], _++_}
 use Prim.Native.Nat.{ℕ, _+_, _-_, _<_, _≤_, min}
-use lib.ListN.{length, drop}
+use lib.ListN.{length, take, drop}
 use Rattle.order.specs.declared.Order.{Order}
 use Rattle.order.specs.declared.address.Source.{Source}
 use Rattle.order.specs.Address.{meaningOf}
@@ -16,6 +16,7 @@ use Rattle.mover.specs.declared.step.Stepped.{Stepped}
 use Rattle.mover.specs.declared.run.Ran.{Ran}
 use Rattle.mover.specs.Promise.{numberOf, stateOf}
 use Rattle.listing.specs.Listing.{listing}
+use Rattle.reading.specs.OrderText.{TEXT}
 use Rattle.reading.specs.Reading.{noOrder}
 use Rattle.demands.specs.Mover.{Mover}
 use Rattle.demands.specs.Numbers.{Numbers}
@@ -60,7 +61,11 @@ pub record Answers (M : Mover) : Type 0 where
   pub read-some : (text : List ℕ) → (k : ℕ) × (order : Order) × M .reads text k order
   pub read-one : (text : List ℕ) (k k′ : ℕ) (order order′ : Order)
       → M .reads text k order → M .reads text k′ order′ → (k ≡ k′) × (order ≡ order′)
+  -- an input of which no more than a text's room is held: what those first bytes are read as, all of it is read as
+  pub read-first : (input : List ℕ) (k : ℕ) (order : Order) → M .reads (take TEXT input) k order → M .reads input k order
   -- writing a listing: the whole of it, and what the room held beyond it; or no byte, where there is no room for it
   pub listing-whole : (plan : Plan) (room : List ℕ) → length (listing plan) ≤ length room
       → (M .lists plan room ≡ length (listing plan)) × (M .leaves plan room ≡ listing plan ++ drop (length (listing plan)) room)
   pub listing-none : (plan : Plan) (room : List ℕ) → length room < length (listing plan) → (M .lists plan room ≡ 0) × (M .leaves plan room ≡ room)
+  -- a text that is taken has something to list
+  pub listing-some : (text : List ℕ) (order : Order) → M .reads text 0 order → 0 < length (listing (M .plans order .plan))

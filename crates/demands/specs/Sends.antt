@@ -6,11 +6,12 @@ use mathlib.Core.List.{[], _∷_}
 use mathlib.Core.Logic.{_↔_}
 use Prim.Native.Nat.{ℕ, _<_, _≤_}
 use lib.ListN.{length}
+use Rattle.algebra.specs.Vector.{WORD}
 use Rattle.bank.specs.Limits.{ROWS}
 use Rattle.bank.specs.Geometry.{inLimits, records}
 use Rattle.order.specs.declared.Order.{Order}
 use Rattle.order.specs.declared.address.Source.{Source}
-use Rattle.order.specs.Order.{badForm}
+use Rattle.order.specs.Order.{Words, badForm}
 use Rattle.order.specs.Address.{meaningOf, sentTo}
 use Rattle.demands.specs.Mover.{Mover}
 use Rattle.demands.specs.Answers.{Refusal}
@@ -57,6 +58,8 @@ pub record Addresses (M : Mover) (order : Order) : Type 0 where
   pub gives-1 : (M .judges order ≡ 1) ↔ (inLimits (order .geometry) ≡ false)
   pub gives-2 : (M .judges order ≡ 2) ↔ ((inLimits (order .geometry) ≡ true) × (badForm order ≡ true))
   pub gives-0 : (M .judges order ≡ 0) ↔ (Formed order × (SharedTarget order → ⊥))
+  -- where an address has all bits of a word none is stray, and no row place is left over
+  pub never-2 : Words order → order .geometry .n ≡ WORD → M .judges order ≡ 2 → ⊥
   -- the number of a question: the order's own where that refuses; then 10 exactly for an address of N or more
   pub asks-judged : (x : ℕ) → Refusal (M .judges order) → M .sends order x .number ≡ M .judges order
   pub asks-10 : (x : ℕ) → (M .sends order x .number ≡ 10) ↔ ((M .judges order ≡ 0) × Beyond order x)

@@ -1,12 +1,14 @@
 -- Which movers are of no use, and which demand does each of them break? Each is ours but for what its name says. Assumes nothing.
 use mathlib.Core.Path.{_≡_}
-use mathlib.Core.Bool.{true, not, cond}
+use mathlib.Core.Bool.{true, not, cond, _&&_}
 use mathlib.Core.List.{List}
-use Prim.Native.Nat.{ℕ, _+_, _-_, _^_}
+use Prim.Native.Nat.{ℕ, _+_, _-_, _%_, _^_}
 use lib.Dec.{eqb}
 use lib.ListN.{getD}
 use Rattle.algebra.specs.Search.{anyBelow}
+use Rattle.algebra.specs.Vector.{WORD}
 use Rattle.bank.specs.Checks.{handed}
+use Rattle.bank.specs.Geometry.{inLimits}
 use Rattle.order.specs.declared.Order.{Order}
 use Rattle.order.specs.declared.address.Target.{Target}
 use Rattle.order.specs.declared.address.Source.the-variants.{Refused as NoSource}
@@ -168,6 +170,13 @@ abbrev pub refusesRuns : Mover
 refusesRuns =
     stepping totalSteps resultArea freshState StepPromise (λ plan m q r w. (r ≡ record { number = 7; count = 0; state = m .state }) × (w ≡ m .buffers))
 
+-- it works out 2^n, or a total, in the bits of a word: the bits above are lost
+abbrev pub wrapsSize : Mover
+wrapsSize = answering (λ order. cond (inLimits (order .geometry) && eqb (order .geometry .n) WORD) 2 (judgement order)) targetOf
+
+abbrev pub wrapsTotals : Mover
+wrapsTotals = stepping (λ plan. totalSteps plan % 2 ^ WORD) resultArea freshState StepPromise RunPromise
+
 -- it reads no text, or lists no plan
 abbrev pub readsNothing : Mover
 readsNothing = writing (λ text k order. (k ≡ 8) × (order ≡ noOrder)) written roomAfter
@@ -191,9 +200,11 @@ pub record Broken : Type 0 where
   pub toZero-fails : Sends toZero → ⊥
   pub toItself-fails : Sends toItself → ⊥
   pub takesIdentityAlone-fails : Sends takesIdentityAlone → ⊥
+  pub wrapsSize-fails : Sends wrapsSize → ⊥
   pub movesNothing-fails : Delivers movesNothing → ⊥
   pub movesAll-fails : Delivers movesAll → ⊥
   pub inventsTotals-fails : Delivers inventsTotals → ⊥
+  pub wrapsTotals-fails : Delivers wrapsTotals → ⊥
   pub stepsMoveNothing-fails : Delivers stepsMoveNothing → ⊥
   pub otherArea-fails : Delivers otherArea → ⊥
   pub beginsAtOne-fails : Delivers beginsAtOne → ⊥

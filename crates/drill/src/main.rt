@@ -7,8 +7,8 @@ mod busy; // busy.rt: the second lesson, the busy matrix
 mod round; // round.rt: the question round
 
 use libc::STDERR_FILENO;
-use reading::TEXT;
 use reading::read_order;
+use reading::text_room;
 
 fn error(w: &[u8]) {
     io::write_all(STDERR_FILENO, w);
@@ -41,7 +41,7 @@ fn named() {
         call();
         return;
     }
-    let mut text = [0u8; TEXT];
+    let mut text = text_room();
     let n = io::read_full(fd, &mut text);
     libc::close(fd);
     question_round(&text[..n]);

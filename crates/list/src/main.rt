@@ -2,15 +2,13 @@
 use bank::Address;
 use libc::STDIN_FILENO;
 use libc::STDOUT_FILENO;
-use listing::write_listing;
+use listing::ROOM;
+use listing::list_plan;
 use order::address::Source;
 use order::address::source_of;
 use plan::make::make_plan;
-use reading::TEXT;
 use reading::read_order;
-
-// More than the longest listing.
-const ROOM: usize = 32768;
+use reading::text_room;
 
 fn refuse(number: u8) {
     io::write_all(STDOUT_FILENO, b"refused ");
@@ -19,7 +17,7 @@ fn refuse(number: u8) {
 }
 
 fn main() {
-    let mut buffer = [0u8; TEXT];
+    let mut buffer = text_room();
     let n = io::read_full(STDIN_FILENO, &mut buffer);
     let read = read_order(&buffer[..n]);
     if read.number != 0 {
@@ -33,8 +31,6 @@ fn main() {
     };
     let planned = make_plan(read.order);
     let mut room = [0u8; ROOM];
-    let k = write_listing(planned.plan, &mut room);
-    if k <= room.len() {
-        io::write_all(STDOUT_FILENO, &room[0..k]);
-    }
+    let k = list_plan(planned.plan, &mut room);
+    io::write_all(STDOUT_FILENO, &room[..k]);
 }

@@ -2,14 +2,16 @@
 use mathlib.Core.Path.{_≡_, refl, sym, ap, _∙_}
 use mathlib.Core.Bool.{true, false}
 use mathlib.Core.List.{List, [], _∷_, _++_, append-assoc, append-nil}
-use Prim.Native.Nat.{ℕ, zero, suc, _+_, _*_, _^_, _<_, _≤_}
+use Prim.Native.Nat.{ℕ, zero, suc, _+_, _*_, _<_, _≤_}
 use native.Mathlib.Omega.{arith}
-use native.Mathlib.Nat.{suc-mul, mul-le-mul}
+use native.Mathlib.Nat.{suc-mul}
 use native.Mathlib.Numerals.{add-one}
 use borrow.Author.Tests.{le-leb, lt-leb}
+use borrow.Table.Steps.{cases}
 use lib.ListN.{length, getD, take, drop, length-append, take-append-drop}
 use lib.Seq.{length-take-le, take-suc, take-all}
 use Rattle.bank.specs.Limits.{ROWS, PASSES}
+use Rattle.bank.proofs.Limits.{square-small}
 use Rattle.planning.specs.declared.Plan.{Plan}
 use Rattle.planning.specs.Pass.{Pass, passAt, total}
 use Rattle.planning.specs.Stored.{storedPass, routeOf}
@@ -41,9 +43,6 @@ passes-snoc n k ps q = passes-append n k ps (q ∷ []) ∙ rw (append-nil (passL
 length-pass : (n p : ℕ) (pass : Pass) → length (passLines n p pass) ≡ length (line (passWord ++ decimal p)) + (length (rowLines n (pass .rows)) + (n + 1))
 unfolding passLines
 length-pass n p pass = simp (length-append, length-bits)
-
-pub square-small : (n : ℕ) → n ≤ ROWS → (n + 1) * (n + 1) ≤ (ROWS + 1) * (ROWS + 1)
-square-small n h = mul-le-mul {n₁ = n + 1} {m₁ = n + 1} {n₂ = ROWS + 1} {m₂ = ROWS + 1} (omega arith) (omega arith)
 
 -- the most bytes that a pass has
 abbrev pub passMost : ℕ
@@ -130,10 +129,6 @@ module _ (plan : Plan) where
   head-small =
       omega (arith, head-long, line-short passesWord (plan .count), line-short stepsWord (total (routeOf plan)), line-short resultWord (resultArea plan))
 
-  -- the sum of the two lengths doesn't wrap
-  pub listing-small : sound plan ≡ true → length (plan .rows) ≡ PASSES * ROWS → length (headLines plan) + length (tailLines plan) < 2 ^ 64
-  listing-small e room = omega (arith, head-small, tail-small plan (sound-allowed plan e .n-high) room (sound-few plan e))
-
   pub listing-none : sound plan ≡ false → listing plan ≡ []
   unfolding listing
   listing-none e = rw e
@@ -145,6 +140,13 @@ module _ (plan : Plan) where
   pub listing-long : sound plan ≡ true → length (listing plan) ≡ length (headLines plan) + length (tailLines plan)
   listing-long e = ap length (listing-parts e) ∙ length-append (headLines plan) (tailLines plan)
 
+  -- the most bytes that a listing has
+  pub listing-fits : length (plan .rows) ≡ PASSES * ROWS → length (listing plan) ≤ 83 + PASSES * passMost
+  listing-fits room =
+      cases (sound plan)
+      (λ e. omega (arith, listing-long e, head-small, tail-small plan (sound-allowed plan e .n-high) room (sound-few plan e)))
+      (λ e. omega (arith, ap length (listing-none e)))
+
   -- what is written, and the room afterwards, by the test on the room's length
   pub no-room : (room : List ℕ) → length room < length (listing plan) → (0 ≡ written plan room) × (room ≡ roomAfter plan room)
   unfolding written roomAfter
@@ -154,10 +156,14 @@ module _ (plan : Plan) where
   unfolding written roomAfter
   nothing-listed room e = rw (listing-none e, le-leb 0 (length room) (omega arith)) (refl, refl)
 
+  pub has-room : (room : List ℕ) → length (listing plan) ≤ length room
+      → (written plan room ≡ length (listing plan)) × (roomAfter plan room ≡ listing plan ++ drop (length (listing plan)) room)
+  unfolding written roomAfter
+  has-room room h = let e = le-leb (length (listing plan)) (length room) h in (rw e, rw e)
+
   pub listed-whole : (room : List ℕ) → length (listing plan) ≤ length room → (after : List ℕ) (past : ℕ) → Wrote room 0 (listing plan) after past
       → (past ≡ written plan room) × (after ≡ roomAfter plan room)
-  unfolding written roomAfter put
+  unfolding put
   listed-whole room h after past w =
-      let e = le-leb (length (listing plan)) (length room) h in
       let z : 0 + length (listing plan) ≡ length (listing plan) = omega arith in
-      (rw (e, w .place) z, rw (e, w .is, z))
+      (rw (has-room room h .0, w .place) z, rw (has-room room h .1, w .is, z))

@@ -3,8 +3,9 @@ mod write; // write.rt: words, numbers and rows into a room
 
 ghost use mathlib.Core.Path.{_≡_};
 ghost use mathlib.Core.Bool.{true};
+ghost use mathlib.Core.List.{_++_};
 ghost use Prim.Native.Nat.{_+_, _<_, _≤_};
-ghost use lib.ListN.{length};
+ghost use lib.ListN.{length, drop};
 ghost use Rattle.bank.specs.Limits.{ROWS, PASSES};
 ghost use Rattle.planning.specs.Running.{sound};
 ghost use Rattle.listing.specs.Listing.{headLines, tailLines, listing, written, roomAfter};
@@ -13,11 +14,17 @@ use crate::write::line_size;
 use crate::write::put_line;
 use crate::write::put_row;
 use crate::write::put_rows;
+use bank::PASSES;
+use bank::ROWS;
 use plan::store::pass_rows;
 use planning::Plan;
 use running::is_sound;
 use running::result_area;
 use running::total_steps;
+
+// As many bytes as any listing has: three lines, and one for each pass, of at most 28 bytes, a word, 20 digits and LF;
+// and for each pass at most ROWS + 1 lines of at most ROWS + 1 bytes.
+pub const ROOM: usize = (3 + PASSES) * 28 + PASSES * (ROWS + 1) * (ROWS + 1);
 
 // How many bytes the three lines before the passes have.
 fn head_size(plan: Plan) -> usize
@@ -121,4 +128,12 @@ pub fn write_listing(plan: Plan, room: &mut [u8]) -> usize
     }
     let p = put_head(room, plan);
     put_tail(room, p, plan)
+}
+
+// The whole listing of any plan, and how many bytes it has.
+pub fn list_plan(plan: Plan, room: &mut [u8; ROOM]) -> usize
+    ensures { λ r. ⌜ (r ≡ length (listing plan)) × (r ≤ length (now (room .exit)))
+        × (now (room .exit) ≡ listing plan ++ drop (length (listing plan)) (now (room .entry))) ⌝ }
+{
+    write_listing(plan, room)
 }

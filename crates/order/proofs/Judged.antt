@@ -9,10 +9,11 @@ use lib.ListN.{getD}
 use Rattle.bank.specs.Limits.{ROWS}
 use Rattle.bank.specs.Geometry.{inLimits, records}
 use Rattle.bank.specs.Checks.{refuse, orLater}
+use Rattle.algebra.specs.Vector.{WORD}
 use Rattle.algebra.specs.Search.{anyBelow}
 use Rattle.algebra.specs.Matrix.{singular}
 use Rattle.algebra.proofs.Search.{none-intro}
-use Rattle.order.specs.Order.{matrixOf, strayRow, strayComplement, spareRow, badForm, formNumber, judgement}
+use Rattle.order.specs.Order.{Words, matrixOf, strayRow, strayComplement, spareRow, badForm, formNumber, judgement}
 use Rattle.order.specs.declared.Order.{Order}
 
 -- ---- the form, as code tests it: size is N, and t what the search for stray rows says
@@ -94,12 +95,13 @@ module _ (order : Order) where
     pub regular-none : badForm order ≡ false → singular (order .geometry .n) (matrixOf order) ≡ false → judgement order ≡ 0
     regular-none f e = in-form f ∙ ap (λ (t : Bool). refuse t 3 0) e
 
--- ---- rows and a complement below N, and zeros beyond the rows, are good form
+-- ---- rows and a complement below N, and zeros at the places beyond the rows, are good form
 module _ (order : Order) (below : (i : ℕ) → i < order .geometry .n → getD (order .rows) i 0 < records (order .geometry))
-    (complement : order .complement < records (order .geometry)) (spare : (i : ℕ) → order .geometry .n ≤ i → getD (order .rows) i 0 ≡ 0) where
-  at-zero : (i : ℕ) (t : Bool) → leb (order .geometry .n) i ≡ t → t && not (eqb (getD (order .rows) i 0) 0) ≡ false
-  at-zero i true e = rw (eq-eqb (getD (order .rows) i 0) 0 (spare i (leb-true (order .geometry .n) i e)))
-  at-zero i false e = refl
+    (complement : order .complement < records (order .geometry))
+    (spare : (i : ℕ) → order .geometry .n ≤ i → i < ROWS → getD (order .rows) i 0 ≡ 0) where
+  at-zero : (i : ℕ) (t : Bool) → leb (order .geometry .n) i ≡ t → i < ROWS → t && not (eqb (getD (order .rows) i 0) 0) ≡ false
+  at-zero i true e h = rw (eq-eqb (getD (order .rows) i 0) 0 (spare i (leb-true (order .geometry .n) i e) h))
+  at-zero i false e h = refl
 
   pub good-form : badForm order ≡ false
   good-form =
@@ -107,4 +109,8 @@ module _ (order : Order) (below : (i : ℕ) → i < order .geometry .n → getD 
       by-place order size refl false
       (sym (none-intro (λ i. leb size (getD (order .rows) i 0)) (order .geometry .n) (λ k h. lt-leb size (getD (order .rows) k 0) (below k h))))
       refl complement false
-      (sym (none-intro (λ i. leb (order .geometry .n) i && not (eqb (getD (order .rows) i 0) 0)) ROWS (λ k h. at-zero k (leb (order .geometry .n) k) refl)))
+      (sym (none-intro (λ i. leb (order .geometry .n) i && not (eqb (getD (order .rows) i 0) 0)) ROWS (λ k h. at-zero k (leb (order .geometry .n) k) refl h)))
+
+-- words are below N where n is WORD, and no place is beyond the rows
+pub word-form : (order : Order) → Words order → order .geometry .n ≡ WORD → badForm order ≡ false
+word-form order w e = good-form order (λ i h. rw e (w .row i)) (rw e (w .complement)) (λ i h l. absurd (omega arith))

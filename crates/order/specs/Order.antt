@@ -1,12 +1,13 @@
 -- Which orders are taken, and by which number is another refused? Assumes nothing.
 use mathlib.Core.Bool.{Bool, not, _&&_, _||_}
 use mathlib.Core.List.{List}
-use Prim.Native.Nat.{ℕ}
+use Prim.Native.Nat.{ℕ, _<_, _^_}
 use lib.Dec.{eqb, leb}
 use lib.ListN.{getD, take}
 use Rattle.bank.specs.Limits.{ROWS}
 use Rattle.bank.specs.Geometry.{inLimits, records}
 use Rattle.bank.specs.Checks.{refuse, orLater}
+use Rattle.algebra.specs.Vector.{WORD}
 use Rattle.algebra.specs.Search.{anyBelow}
 use Rattle.algebra.specs.Matrix.{singular}
 use Rattle.order.specs.declared.Order.{Order}
@@ -14,6 +15,11 @@ use Rattle.order.specs.declared.Order.{Order}
 -- A: the first n rows
 abbrev pub matrixOf : Order → List ℕ
 matrixOf order = take (order .geometry .n) (order .rows)
+
+-- the rows and the complement are words, as every order's are in code
+pub record Words (order : Order) : Type 0 where
+  pub row : (i : ℕ) → getD (order .rows) i 0 < 2 ^ WORD
+  pub complement : order .complement < 2 ^ WORD
 
 -- a row of A has a bit at n or above
 unfoldable pub strayRow : Order → Bool

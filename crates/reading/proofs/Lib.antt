@@ -4,5 +4,6 @@ pub mod FoundRows
 pub mod Rest
 pub mod Joined
 pub mod OneText
+pub mod First
 pub mod Some
 pub mod Main

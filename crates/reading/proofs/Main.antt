@@ -71,12 +71,16 @@ read-written order e room =
     e
 
 -- ---- only what is written is read
-only-text-at : (text : List ℕ) (k : ℕ) (order : Order) → Reads text k order → k ≡ 0 → text ≡ orderText order
-only-text-at text k order (no-first-line f) e = absurd (omega arith)
-only-text-at text k order (outside g b i) e = absurd (omega arith)
-only-text-at text k order (no-rest g b i n) e = absurd (omega arith)
-only-text-at text k order (singular g q b i w j) e = absurd (omega arith)
-only-text-at text k order (taken g q b i w j) e = w .is
+-- what a text that is taken, and its order, are
+pub record Taken (text : List ℕ) (order : Order) : Type 0 where
+  pub is : text ≡ orderText order
+  pub room : length (order .rows) ≡ ROWS
+  pub judged : judgement order ≡ 0
+  pub inside : inLimits (order .geometry) ≡ true
 
-pub only-text : (text : List ℕ) (order : Order) → Reads text 0 order → text ≡ orderText order
-only-text text order r = only-text-at text 0 order r refl
+pub read-taken : {text : List ℕ} {k : ℕ} {order : Order} → Reads text k order → k ≡ 0 → Taken text order
+read-taken (no-first-line f) e = absurd (omega arith)
+read-taken (outside g b i) e = absurd (omega arith)
+read-taken (no-rest g b i n) e = absurd (omega arith)
+read-taken (singular g q b i w j) e = absurd (omega arith)
+read-taken (taken g q b i w j) e = record { is = w .is; room = w .room; judged = j; inside = judgement→accepted q j .inside }

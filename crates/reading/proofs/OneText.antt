@@ -36,7 +36,7 @@ module _ (text : List ℕ) (g : Geometry) (inside : inLimits g ≡ true) (o : Or
   inside-own : inLimits (o .geometry) ≡ true
   inside-own = ap inLimits (w .geometry) ∙ inside
 
-  matrix-long : length (matrixOf o) ≡ g .n
+  pub matrix-long : length (matrixOf o) ≡ g .n
   matrix-long = matrix-length o inside-own (w .room) ∙ n-is
 
   rows-low : (i : ℕ) → i < length (matrixOf o) → getD (matrixOf o) i 0 < 2 ^ g .n

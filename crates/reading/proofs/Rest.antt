@@ -24,7 +24,7 @@ rest-found s at g rows e c k found row h =
     record {
       geometry = refl;
       room = found .room;
-      form = good-form (record { geometry = g; rows = rows; complement = c }) (found .below) (row .0) (found .spare);
+      form = good-form (record { geometry = g; rows = rows; complement = c }) (found .below) (row .0) (λ i beyond l. found .spare i beyond);
       is = found .is ∙ rw (row .1, drop-of-length-le s h, append-nil (line (bits (g .n) c)));
     }
 

@@ -4,7 +4,9 @@ mod rows; // rows.rt: rows of bits at a place of a text
 
 ghost use mathlib.Core.Path.{_≡_};
 ghost use Prim.Native.Nat.{_≤_};
+ghost use lib.ListN.{replicate};
 ghost use Rattle.bank.specs.Limits.{ROWS};
+ghost use Rattle.reading.specs.OrderText.{TEXT};
 ghost use Rattle.reading.specs.Reading.{Reads, noOrder};
 ghost use Rattle.reading.specs.Found.{RestAt};
 use crate::number::FirstLine;
@@ -16,13 +18,20 @@ use bank::Geometry;
 use bank::ROWS;
 use order::Order;
 
-// More bytes than the longest order text has: what follows so many can't make a text right that is too long.
-pub const TEXT: usize = 4096;
+// More bytes than the text of an order inside the limits has.
+const TEXT: usize = 20 + (ROWS + 1) * (ROWS + 1) + 1;
 
 // The number, and the order: zero everywhere where refused.
 pub struct Read {
     pub number: u8,
     pub order: Order,
+}
+
+// A room for the first bytes of an input: what they are read as, the whole input is read as.
+pub fn text_room() -> [u8; TEXT]
+    ensures { λ r. ⌜ r ≡ replicate TEXT 0 ⌝ }
+{
+    [0u8; TEXT]
 }
 
 // A refusal.

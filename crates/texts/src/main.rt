@@ -1,13 +1,11 @@
 // Reads the order texts that the arguments name, and writes for each its name and what `list` would write.
 use libc::STDOUT_FILENO;
+use listing::ROOM;
+use listing::list_plan;
 use listing::listing_size;
-use listing::write_listing;
 use plan::make::make_plan;
-use reading::TEXT;
 use reading::read_order;
-
-// As in `list`.
-const ROOM: usize = 32768;
+use reading::text_room;
 
 fn answer(text: &[u8]) {
     let read = read_order(text);
@@ -19,14 +17,12 @@ fn answer(text: &[u8]) {
     }
     let planned = make_plan(read.order);
     let mut room = [0u8; ROOM];
-    let k = write_listing(planned.plan, &mut room);
+    let k = list_plan(planned.plan, &mut room);
     if k != listing_size(planned.plan) {
         io::write_all(STDOUT_FILENO, b"listing of another size\n");
         return;
     }
-    if k <= ROOM {
-        io::write_all(STDOUT_FILENO, &room[0..k]);
-    }
+    io::write_all(STDOUT_FILENO, &room[..k]);
 }
 
 // The text in the file that the argument names.
@@ -40,7 +36,7 @@ fn one(which: usize) {
         os::fail(&path[..length]);
         return;
     }
-    let mut buffer = [0u8; TEXT];
+    let mut buffer = text_room();
     let n = io::read_full(fd, &mut buffer);
     libc::close(fd);
     answer(&buffer[..n]);

@@ -10,7 +10,7 @@ use delivery::deliver;
 use libc::STDERR_FILENO;
 use libc::STDIN_FILENO;
 use libc::STDOUT_FILENO;
-use reading::TEXT;
+use reading::text_room;
 use sending::progress::Progress;
 
 // The most bytes of a run, and of its memory, which has at most half as many records.
@@ -62,7 +62,7 @@ fn open(again: u64, run: &mut [u8], spare: &mut [u8], memory: &mut [u8]) {
         say::not_opened(&path[..length]);
         return;
     }
-    let mut text = [0u8; TEXT];
+    let mut text = text_room();
     let n = io::read_full(fd, &mut text);
     libc::close(fd);
     take_in(&text[..n], again, run, spare, memory);

@@ -4,7 +4,7 @@ ghost use Rattle.io.specs.Counts.{Counts};
 use delivery::Delivery;
 use delivery::deliver;
 use libc::STDOUT_FILENO;
-use reading::TEXT;
+use reading::text_room;
 use sending::progress::Progress;
 use words::Word;
 use words::read_number;
@@ -81,7 +81,7 @@ fn one(
     spare: &mut [u8],
     memory: &mut [u8],
 ) {
-    let mut text = [0u8; TEXT];
+    let mut text = text_room();
     let n = file(order, &mut text);
     let came = file(input, run);
     let k = times(again);

@@ -3,6 +3,7 @@ mod say; // say.rt: a line of output
 mod orders; // orders.rt: geometry, form and addresses
 mod plans; // plans.rt: plans made, and plans judged
 mod steps; // steps.rt: steps and runs on lent bytes
+mod limits; // limits.rt: what is tried at the limits
 
 fn main() {
     orders::geometries();
@@ -17,4 +18,9 @@ fn main() {
     steps::in_turn();
     steps::lengths();
     steps::wholes();
+    limits::words();
+    limits::made();
+    limits::counts();
+    limits::totals();
+    limits::lengths();
 }

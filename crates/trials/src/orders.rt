@@ -61,12 +61,12 @@ fn largest(n: u32, r: u32) -> Order {
     }
 }
 
-fn forward(asked: &[u8], o: Order, x: u64) {
+pub(crate) fn forward(asked: &[u8], o: Order, x: u64) {
     let t = target_of(o, Address(x));
     say::two(asked, t.number as u64, t.address.0);
 }
 
-fn backward(asked: &[u8], o: Order, y: u64) {
+pub(crate) fn backward(asked: &[u8], o: Order, y: u64) {
     let Source::From(x) = source_of(o, Address(y)) else {
         refusal(asked, o, y);
         return;
@@ -80,7 +80,7 @@ fn refusal(asked: &[u8], o: Order, y: u64) {
     }
 }
 
-fn judged(asked: &[u8], o: Order) {
+pub(crate) fn judged(asked: &[u8], o: Order) {
     say::one(asked, order::judge(o) as u64);
 }
 
@@ -93,15 +93,15 @@ pub(crate) fn geometries() {
         b"b + d = m + 1",
         order(geometry(4, 1, 3, 3, 8), 1, 2, 4, 8, 0),
     );
-    judged(b"n = 24", largest(24, 8));
-    judged(b"n = 25", largest(25, 8));
-    judged(b"R = 64", largest(24, 64));
-    judged(b"R = 65", largest(24, 65));
-    judged(b"R = 0", largest(24, 0));
+    judged(b"n = 32", largest(32, 8));
+    judged(b"n = 33", largest(33, 8));
+    judged(b"R = 256", largest(32, 256));
+    judged(b"R = 257", largest(32, 257));
+    judged(b"R = 0", largest(32, 0));
     judged(b"n = 1", order(geometry(1, 0, 0, 1, 8), 1, 0, 0, 0, 0));
     judged(
-        b"24 5 253 6 8",
-        order(geometry(24, 5, 253, 6, 8), 1, 2, 4, 8, 0),
+        b"32 5 253 6 8",
+        order(geometry(32, 5, 253, 6, 8), 1, 2, 4, 8, 0),
     );
     judged(
         b"b + d past 32 bits",
@@ -148,8 +148,6 @@ pub(crate) fn forwards() {
         order(geometry(4, 2, 0, 2, 8), 1, 2, 4, 8, 0),
         16,
     );
-    forward(b"n = 24, address N - 1", largest(24, 8), 16777215);
-    forward(b"n = 24, address N", largest(24, 8), 16777216);
 }
 
 pub(crate) fn backwards() {

@@ -11,7 +11,7 @@ use running::result_area;
 use running::total_steps;
 
 // Number, passes, steps and result area.
-fn planned(asked: &[u8], o: Order) {
+pub(crate) fn planned(asked: &[u8], o: Order) {
     let p = make_plan(o);
     let made = p.plan;
     say::four(
@@ -23,7 +23,7 @@ fn planned(asked: &[u8], o: Order) {
     );
 }
 
-fn runs(asked: &[u8], p: Plan, next: u64) {
+pub(crate) fn runs(asked: &[u8], p: Plan, next: u64) {
     let s = State { next: Step(next) };
     let mut answer = 0u64;
     if can_run(p, s) {
@@ -82,13 +82,13 @@ pub(crate) fn judged() {
     p.geometry.m = 4;
     runs(b"m = n", p, 0);
     p = reversal();
-    p.geometry.r = 65;
-    runs(b"R = 65", p, 0);
+    p.geometry.r = 257;
+    runs(b"R = 257", p, 0);
     p = reversal();
     p.count = 0;
     runs(b"no passes", p, 0);
-    p.count = 14;
-    runs(b"14 passes", p, 0);
+    p.count = 18;
+    runs(b"18 passes", p, 0);
     p = reversal();
     p.rows[0] = 21;
     runs(b"a stray bit in a row", p, 0);

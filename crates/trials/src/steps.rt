@@ -70,7 +70,7 @@ fn reversal() -> Plan {
 }
 
 // Asks for a step, and says its number.
-fn ask(
+pub(crate) fn ask(
     asked: &[u8],
     p: Plan,
     s: State,
@@ -85,7 +85,7 @@ fn ask(
 }
 
 // Runs with an allowance, and says the number, the count and the next step.
-fn go(
+pub(crate) fn go(
     asked: &[u8],
     p: Plan,
     s: State,
@@ -233,7 +233,7 @@ fn lent_on(asked: &[u8], p: Plan, k: u64, area0: &mut [u8], area1: &mut [u8], me
 }
 
 // The same with the first bytes of three long buffers, of the lengths given.
-fn lent(asked: &[u8], p: Plan, k: u64, l0: usize, l1: usize, lm: usize) {
+pub(crate) fn lent(asked: &[u8], p: Plan, k: u64, l0: usize, l1: usize, lm: usize) {
     let mut area0 = [0u8; LONG];
     let mut area1 = [0u8; LONG];
     let mut memory = [0u8; LONG];

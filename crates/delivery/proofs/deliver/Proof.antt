@@ -4,7 +4,8 @@ use Prim.Native.Nat.{ℕ}
 use native.Mathlib.Omega.{arith}
 use Rattle.moving.specs.Step.{Buffers, buffersOf}
 use Rattle.reading.specs.Reading.{Reads}
-use Rattle.delivery.proofs.Promised.{Measured, Taken, done-promise, from-start, other-length-promise, parts-fit, read-taken}
+use Rattle.reading.proofs.Main.{Taken, read-taken}
+use Rattle.delivery.proofs.Promised.{Measured, done-promise, from-start, other-length-promise, parts-fit}
 use Rattle.delivery.proofs.Promised.{short-area, short-memory, unread-promise}
 use borrow.Author.Needs.{needs}
 use Rattle.delivery.proofs.deliver.Statement.{statement}
@@ -21,7 +22,8 @@ returns c =
     let r = c .before .before .read-order in
     unread-promise (s .args .text .now) (lent s) (r .result .number) (r .result .order) (r .ensures) (c .if1 .taken)
 
-is-taken : (c : tie.Else1) → Taken (c .before .before .read-order .result .order)
+is-taken : (c : tie.Else1)
+    → Taken (c .before .before .before .before .before .before .before .args .text .now) (c .before .before .read-order .result .order)
 is-taken c = read-taken (c .before .before .read-order .ensures) (c .if1 .left)
 
 area-bytes-requires : tie.Need-area-bytes-requires

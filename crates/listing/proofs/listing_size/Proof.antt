@@ -6,12 +6,17 @@ use borrow.Author.Needs.{needs}
 use lib.ListN.{length}
 use borrow.Author.Tests.{not-true, not-false}
 use Rattle.planning.specs.Running.{sound}
-use Rattle.listing.proofs.Passes.{listing-none, listing-small, listing-long}
+use Rattle.listing.proofs.Passes.{listing-none, listing-long, listing-fits}
 use Rattle.listing.proofs.listing_size.Statement.{statement}
 use Rattle.listing.proofs.listing_size.Tie as tie
 
 can-run : (k : tie.Else1) → sound (k .before .before .args .plan) ≡ true
 can-run k = sym (k .before .is-sound .ensures) ∙ not-false (k .before .is-sound .result) (k .if1 .left)
+
+sized : tie.Need-returns-2
+sized c =
+    let long = listing-long (c .before .before .before .before .args .plan) (can-run (c .before .before)) in
+    omega (arith, c .before .head-size .ensures, c .tail-size .ensures)
 
 returns : tie.Need-returns
 returns c =
@@ -25,14 +30,7 @@ tail-size-requires : tie.Need-tail-size-requires
 tail-size-requires c κs = can-run (c .before)
 
 add-result : tie.Need-add-result
-add-result c =
-    let small = listing-small (c .before .before .before .before .args .plan) (can-run (c .before .before)) (search needs) in
-    omega (arith, c .before .head-size .ensures, c .tail-size .ensures)
-
-returns-2 : tie.Need-returns-2
-returns-2 c =
-    let long = listing-long (c .before .before .before .before .args .plan) (can-run (c .before .before)) in
-    omega (arith, c .before .head-size .ensures, c .tail-size .ensures)
+add-result c = omega (arith, sized c, listing-fits (c .before .before .before .before .args .plan) (search needs))
 
 pub listing-size-spec : {M : Type 1} → statement M
-listing-size-spec = tie.close (tie.spec (λ c κs. search needs) returns head-size-requires tail-size-requires add-result returns-2)
+listing-size-spec = tie.close (tie.spec (λ c κs. search needs) returns head-size-requires tail-size-requires add-result sized)

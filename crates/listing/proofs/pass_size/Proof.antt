@@ -1,9 +1,10 @@
 -- `listing::pass_size` meets its contract: the line of its number, and a square of characters with their line's ends. Assumes nothing.
 use native.Mathlib.Omega.{arith}
 use borrow.Author.Needs.{needs}
+use Rattle.bank.proofs.Limits.{square-small}
 use Rattle.listing.specs.Listing.{passWord}
 use Rattle.text.proofs.Decimals.{line-short}
-use Rattle.listing.proofs.Passes.{square-small, pass-length}
+use Rattle.listing.proofs.Passes.{pass-length}
 use Rattle.listing.proofs.pass_size.Statement.{statement}
 use Rattle.listing.proofs.pass_size.Tie as tie
 

@@ -9,7 +9,7 @@ use borrow.Author.Tests.{not-true, not-false}
 use Rattle.planning.specs.Running.{sound}
 use Rattle.listing.specs.Listing.{listing, headLines, tailLines}
 use Rattle.listing.proofs.Put.{wrote-more, wrote-fits}
-use Rattle.listing.proofs.Passes.{listing-small, listing-parts, listing-long, no-room, nothing-listed, listed-whole}
+use Rattle.listing.proofs.Passes.{listing-parts, listing-long, listing-fits, no-room, nothing-listed, listed-whole}
 use Rattle.listing.proofs.write_listing.Statement.{statement}
 use Rattle.listing.proofs.write_listing.Tie as tie
 
@@ -40,9 +40,7 @@ tail-size-requires : tie.Need-tail-size-requires
 tail-size-requires c κs = can-run (c .before)
 
 add-size : tie.Need-add-size
-add-size c =
-    let small = listing-small (c .before .before .before .before .before .args .plan) (can-run (c .before .before)) (search needs) in
-    omega (arith, c .before .head-size .ensures, c .tail-size .ensures)
+add-size c = omega (arith, sized c, listing-fits (c .before .before .before .before .before .args .plan) (search needs))
 
 returns-2 : tie.Need-returns-2
 returns-2 c = let a = c .before .before .before .before .before .before .args in no-room (a .plan) (a .room .now) (omega (arith, sized (c .before)))
