@@ -1,5 +1,6 @@
 -- What are the columns of a matrix, and what matrix has given columns? Assumes nothing.
 use mathlib.Core.Path.{_∙_, _≡_, ap, refl, subst, sym}
+use mathlib.Core.Bool.{Bool, false, not, true}
 use mathlib.Core.List.{List, [], _∷_, map}
 use Prim.Native.Nat.{_+_, _<_, _^_, _≤_, suc, zero, ℕ}
 use native.Mathlib.Nat.{add-zero, le-of-suc-le-suc, lt-of-lt-of-le, not-suc-le-zero, zero-add}
@@ -7,10 +8,15 @@ use native.Mathlib.Omega.{arith}
 use lib.Pow.{pow-mono}
 use lib.ListN.{drop, getD, length, length-map, List·getD-map, take}
 use lib.Bits.{and-comm, bitAnd}
+use lib.Dec.{eqb}
+use lib.Seq.{ext-getD}
+use borrow.Author.Tests.{eq-eqb, eqb-true, ne-eqb, not-false, not-true}
 use Rattle.algebra.proofs.Digits.{bits-same}
 use Rattle.algebra.proofs.Linear.{apply-bit, apply-lt, apply-zero, dot-comb, dot-unit, listed-units}
 use Rattle.algebra.proofs.Listed.{listed-at, listed-length}
-use Rattle.algebra.specs.Matrix.{applied, columns, identity}
+use Rattle.algebra.proofs.Search.{any-intro, none-elim, none-intro}
+use Rattle.algebra.specs.Matrix.{applied, columns, identity, isIdentity}
+use Rattle.algebra.specs.Search.{anyBelow}
 use Rattle.algebra.specs.Vector.{bit, comb, parity, unitVectors}
 
 -- ---- a column of a matrix of at most n rows
@@ -38,6 +44,29 @@ pub identity-at : (n i : ℕ) → i < n → getD (identity n) i 0 ≡ 2 ^ i
 unfolding identity
 identity-at n i h =
     ap (λ (l : List ℕ). getD l i 0) (sym (listed-units n 0)) ∙ listed-at 0 (λ j. 2 ^ j) n 0 i h ∙ ap (λ (k : ℕ). 2 ^ k) (zero-add i)
+
+-- ---- which rows are the identity's
+module _ (n : ℕ) (rows : List ℕ) where
+  -- row i is another than the identity's
+  abbrev other : ℕ → Bool
+  other i = not (eqb (getD rows i 0) (getD (identity n) i 0))
+
+  pub other-row : (i : ℕ) → i < n → (getD rows i 0 ≡ 2 ^ i → ⊥) → isIdentity n rows ≡ false
+  unfolding isIdentity
+  other-row i h f =
+      ap not (any-intro other n i h (ap not (ne-eqb (getD rows i 0) (getD (identity n) i 0) (λ e. f (e ∙ identity-at n i h)))))
+
+  pub each-row : ((i : ℕ) → i < n → getD rows i 0 ≡ 2 ^ i) → isIdentity n rows ≡ true
+  unfolding isIdentity
+  each-row f =
+      ap not (none-intro other n (λ i h. ap not (eq-eqb (getD rows i 0) (getD (identity n) i 0) (f i h ∙ sym (identity-at n i h)))))
+
+  pub identity-rows : length rows ≡ n → isIdentity n rows ≡ true → rows ≡ identity n
+  unfolding isIdentity
+  identity-rows long e =
+      ext-getD 0 rows (identity n) (long ∙ sym (identity-length n))
+      (λ i h. eqb-true (getD rows i 0) (getD (identity n) i 0)
+      (not-false (eqb (getD rows i 0) (getD (identity n) i 0)) (none-elim other n i (not-true (anyBelow other n) e) (omega (arith, long)))))
 
 pub map-unit : (f : ℕ → ℕ) (n i : ℕ) → i < n → getD (map f (unitVectors n 0)) i 0 ≡ f (2 ^ i)
 unfolding identity

@@ -26,6 +26,10 @@ after a q = map (comb a) q
 unfoldable pub identity : ℕ → List ℕ
 identity n = unitVectors n 0
 
+-- A, of n rows, is the identity: none of its rows is another than the identity's
+unfoldable pub isIdentity : ℕ → List ℕ → Bool
+isIdentity n rows = not (anyBelow (λ i. not (eqb (getD rows i 0) (getD (identity n) i 0))) n)
+
 -- the n columns of A: column j is A applied to 2 ^ j, and so the sum of the columns in a set s is A applied to s.
 -- The columns of a list of columns are the rows
 unfoldable pub columns : ℕ → List ℕ → List ℕ

@@ -1,13 +1,13 @@
--- Why has a delivery one outcome, and why is the run in tray order only one? Assumes nothing.
+-- Why has a delivery one outcome, why is the run in tray order only one, and why does no byte change where no record need move? Assumes nothing.
 use mathlib.Core.Path.{_≡_, refl, sym, ap, ap₂, _∙_, subst}
-use mathlib.Core.Bool.{cond}
-use mathlib.Core.List.{List}
+use mathlib.Core.Bool.{Bool, cond, false, true}
+use mathlib.Core.List.{List, _++_}
 use Prim.Native.Nat.{ℕ, zero, suc, _*_, _/_, _%_, _<_}
 use native.Mathlib.Nat.{div-add-mod', div-lt-iff-lt-mul, mod-lt}
 use native.Mathlib.Omega.{arith}
 use borrow.Author.Tests.{eq-eqb, ne-eqb}
 use lib.Dec.{eqb}
-use lib.ListN.{length, getD, drop}
+use lib.ListN.{length, getD, drop, take-append-drop}
 use lib.Seq.{ext-getD, getD-drop, getD-take}
 use Rattle.bank.specs.Limits.{ROWS}
 use Rattle.bank.specs.Geometry.{records}
@@ -15,12 +15,20 @@ use Rattle.order.specs.declared.Order.{Order}
 use Rattle.order.specs.Order.{judgement}
 use Rattle.order.proofs.Main.{comes}
 use Rattle.moving.specs.Bytes.{recordOf}
-use Rattle.moving.specs.Step.{Buffers, areaBytes}
+use Rattle.moving.specs.Call.{Moment, begun, ran}
+use Rattle.moving.specs.Step.{Buffers, areaBytes, buffersOf, memoryBytes}
+use Rattle.moving.proofs.Calls.{run-none}
+use Rattle.plan.specs.Answer.{plannedFor}
 use Rattle.reading.specs.Reading.{Reads, noOrder}
+use Rattle.reading.proofs.Main.{read-taken}
+use Rattle.demands.specs.Delivers.{areaNamed}
+use Rattle.demands.specs.Ours.{ours}
+use Rattle.demands.specs.Still.{NoSteps, StillOrder}
 use Rattle.demands.proofs.Answers.{ours-answers}
+use Rattle.demands.proofs.Still.{ours-still}
 use Rattle.delivery.specs.declared.Delivery.{Delivery}
 use Rattle.delivery.specs.declared.Delivery.the-variants.{Done, Refused, NoRoom}
-use Rattle.delivery.specs.Delivery.{DeliveryPromise, InTrayOrder, afterDelivery, roomFor}
+use Rattle.delivery.specs.Delivery.{DeliveryPromise, InTrayOrder, afterDelivery, allSteps, partsOf, roomFor, setInOrder}
 use Rattle.delivery.specs.Delivery.DeliveryPromise.{unread, no-room, other-length, done}
 use Rattle.delivery.specs.Outcome.{Outcome}
 
@@ -37,6 +45,11 @@ bytesBy zero order v =
     let g = order .geometry in
     cond (roomFor g v) (cond (eqb (length (v .area0)) (areaBytes g)) (afterDelivery order v) v) v
 bytesBy (suc k) order v = v
+
+-- a choice between v and what is v
+either : (t : Bool) {v w : Buffers} → w ≡ v → cond t w v ≡ v
+either true e = e
+either false e = refl
 
 -- what a promise says
 record Decided (text : List ℕ) (v : Buffers) (answer : Delivery) (w : Buffers) : Type 0 where
@@ -90,5 +103,43 @@ one-order order room taken before after after′ long a b =
     ap (recordOf (g .r) after) (sym (c .goes)) ∙ a .at-target (c .from) (c .below)
     ∙ sym (b .at-target (c .from) (c .below)) ∙ ap (recordOf (g .r) after′) (c .goes))
 
+-- ---- an order that leaves every record where it is
+
+module _ (order : Order) (room : length (order .rows) ≡ ROWS) (taken : judgement order ≡ 0) (still : StillOrder order) where
+  no-steps : NoSteps ours order (plannedFor order .plan)
+  no-steps = ours-still order room taken still
+
+  steps-leave : (v : Buffers) → allSteps order v ≡ v
+  steps-leave v =
+      let plan = plannedFor order .plan in
+      ap (λ (q : ℕ). ran plan (begun v) q .buffers) (no-steps .no-step) ∙ ap (λ (m : Moment). m .buffers) (run-none plan (begun v))
+
+  set-leaves : (v : Buffers) → setInOrder order v ≡ v
+  unfolding setInOrder areaNamed
+  set-leaves v = ap₂ (λ (k : ℕ) (w : Buffers). buffersOf (areaNamed k w) (w .area1) (w .memory)) (no-steps .in-area-0) (steps-leave v)
+
+  delivery-leaves : (v : Buffers) → afterDelivery order v ≡ v
+  unfolding afterDelivery
+  delivery-leaves v =
+      let s = areaBytes (order .geometry) in
+      let k = memoryBytes (order .geometry) in
+      ap (λ (w : Buffers). buffersOf (w .area0) (w .area1 ++ drop s (v .area1)) (w .memory ++ drop k (v .memory))) (set-leaves (partsOf (order .geometry) v))
+      ∙ ap₂ (buffersOf (v .area0)) (take-append-drop s (v .area1)) (take-append-drop k (v .memory))
+
+  bytes-leave : (v : Buffers) → bytesBy 0 order v ≡ v
+  unfolding bytesBy
+  bytes-leave v =
+      let g = order .geometry in
+      ap (λ (w : Buffers). cond (roomFor g v) (cond (eqb (length (v .area0)) (areaBytes g)) w v) v) (delivery-leaves v)
+      ∙ either (roomFor g v) (either (eqb (length (v .area0)) (areaBytes g)) refl)
+
+untouched : (text : List ℕ) (order : Order) → Reads text 0 order → StillOrder order → (v : Buffers) (answer : Delivery) (w : Buffers)
+    → DeliveryPromise text v answer w → w ≡ v
+untouched text order r still v answer w p =
+    let a = decided p in
+    let e = ours-answers .read-one text (a .number) 0 (a .order) order (a .read) r in
+    let t = read-taken r refl in
+    a .bytes ∙ ap₂ (λ (k : ℕ) (o : Order). bytesBy k o v) (e .0) (e .1) ∙ bytes-leave order (t .room) (t .judged) still v
+
 pub delivery-outcome : Outcome
-delivery-outcome = record { one = one; one-order = one-order }
+delivery-outcome = record { one = one; one-order = one-order; untouched = untouched }

@@ -1,4 +1,4 @@
--- Has a delivery one outcome, and is the run in tray order only one? Assumes nothing.
+-- Has a delivery one outcome, is the run in tray order only one, and what is left where no record need move? Assumes nothing.
 use mathlib.Core.Path.{_≡_}
 use mathlib.Core.List.{List}
 use Prim.Native.Nat.{ℕ}
@@ -7,6 +7,8 @@ use Rattle.bank.specs.Limits.{ROWS}
 use Rattle.order.specs.declared.Order.{Order}
 use Rattle.order.specs.Order.{judgement}
 use Rattle.moving.specs.Step.{Buffers, areaBytes}
+use Rattle.reading.specs.Reading.{Reads}
+use Rattle.demands.specs.Still.{StillOrder}
 use Rattle.delivery.specs.declared.Delivery.{Delivery}
 use Rattle.delivery.specs.Delivery.{InTrayOrder, DeliveryPromise}
 
@@ -17,3 +19,6 @@ pub record Outcome : Type 0 where
   -- an accepted order sets a run of N·R bytes in one order only
   pub one-order : (order : Order) → length (order .rows) ≡ ROWS → judgement order ≡ 0 → (before after after′ : List ℕ)
       → length before ≡ areaBytes (order .geometry) → InTrayOrder order before after → InTrayOrder order before after′ → after ≡ after′
+  -- an order that leaves every record where it is leaves every lent byte as it was, whatever is answered
+  pub untouched : (text : List ℕ) (order : Order) → Reads text 0 order → StillOrder order → (v : Buffers) (answer : Delivery) (w : Buffers)
+      → DeliveryPromise text v answer w → w ≡ v

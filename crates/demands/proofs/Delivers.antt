@@ -2,6 +2,7 @@
 use mathlib.Core.Path.{_≡_, refl, ap, ap₂, _∙_, subst}
 use mathlib.Core.Bool.{true, cond}
 use mathlib.Core.List.{List}
+use mathlib.Core.Logic.{_↔_, _⊎_, ⊎-elim}
 use Prim.Native.Nat.{ℕ, zero, suc, _+_, _-_, _%_, _*_, _<_, _≤_}
 use native.Mathlib.Nat.{le-of-eq, zero-add}
 use native.Mathlib.Omega.{arith}
@@ -15,6 +16,7 @@ use Rattle.bank.specs.Geometry.{records}
 use Rattle.order.specs.declared.Order.{Order}
 use Rattle.order.specs.Order.{matrixOf, judgement}
 use Rattle.order.specs.Address.{sentTo}
+use Rattle.order.proofs.Accepted.{Accepted, judgement→accepted, matrix-below, matrix-length}
 use Rattle.planning.specs.declared.Plan.{Plan}
 use Rattle.planning.specs.Columns.{phi}
 use Rattle.planning.specs.Making.{dividedUp}
@@ -22,6 +24,7 @@ use Rattle.planning.specs.Pass.{performed, total}
 use Rattle.planning.specs.Stored.{planFor, planOf, routeOf, storedRows}
 use Rattle.planning.proofs.Made.{runs-bound}
 use Rattle.planning.proofs.Running.{sound-allowed, sound→can-run, sound→runs}
+use Rattle.planning.proofs.Still.{still-or, still-target, target-still}
 use Rattle.planning.proofs.Stored.{route-length}
 use Rattle.plan.specs.declared.make.Planned.{Planned}
 use Rattle.plan.specs.Answer.{plannedFor}
@@ -42,6 +45,7 @@ use Rattle.demands.specs.Chain.{Called, Chain, newSteps}
 use Rattle.demands.specs.Chain.Chain.{noCalls, step, run, strayStep, strayRun}
 use Rattle.demands.specs.Delivers.{Carries, Delivered, Delivers, DeliversForeign, Performs, Reached, Runnable, areaNamed, roundsFor}
 use Rattle.demands.specs.PassCounts.{PassCounts}
+use Rattle.demands.specs.Still.{StillOrder}
 use Rattle.demands.proofs.OneStep.{one-step}
 use Rattle.demands.proofs.Repeats.{ours-repeats}
 use Rattle.demands.proofs.Promised.{run-moment, step-moment, step-number}
@@ -154,8 +158,36 @@ module _ (order : Order) (room : length (order .rows) ≡ ROWS) (taken : judgeme
       let k = made-accepted order room taken in
       record { on-its-bank = k .on-its-bank; runs = record { can-run = k .sound-plan; room = own-room }; takes = k .performs }
 
-  own-passes : plannedFor order .plan .count ≡ roundsFor order + 1
+  formed : Accepted order
+  formed = judgement→accepted order taken
+
+  long : length (matrixOf order) ≡ order .geometry .n
+  long = matrix-length order (formed .inside) room
+
+  still-or-not : StillOrder order ⊎ (StillOrder order → ⊥)
+  still-or-not = still-or (order .geometry) (matrixOf order) (order .complement) long
+
+  own-none : StillOrder order → plannedFor order .plan .count ≡ 0
+  own-none = made-accepted order room taken .no-pass
+
+  pub own-passes : (StillOrder order → ⊥) → plannedFor order .plan .count ≡ roundsFor order + 1
   own-passes = made-accepted order room taken .passes
+
+  -- at most one more than rounds, whichever of the two it is
+  own-few : plannedFor order .plan .count ≤ roundsFor order + 1
+  own-few = ⊎-elim (λ (s : StillOrder order). omega (arith, own-none s)) (λ (f : StillOrder order → ⊥). le-of-eq (own-passes f)) still-or-not
+
+  -- no pass exactly where A is the identity and c is 0
+  own-exact : (plannedFor order .plan .count ≡ 0) ↔ StillOrder order
+  own-exact =
+      (λ e. ⊎-elim (λ (s : StillOrder order). s) (λ (f : StillOrder order → ⊥). absurd (omega (arith, own-passes f, e))) still-or-not, own-none)
+
+  -- and that is where every address is sent to itself
+  own-stays : StillOrder order ↔ ((x : ℕ) → x < records (order .geometry) → sentTo order x ≡ x)
+  own-stays =
+      let n = order .geometry .n in
+      let A = matrixOf order in
+      (still-target n A (order .complement), target-still n A (order .complement) long (matrix-below order (formed .inside) room (formed .form)))
 
 pub ours-delivers : Delivers ours
 ours-delivers =
@@ -166,7 +198,7 @@ ours-delivers =
             on-its-bank = k .on-its-bank;
             runs = k .runs;
             delivers = foreign-delivers order (plannedFor order .plan) k;
-            passes = le-of-eq (own-passes order room taken);
+            passes = own-few order room taken;
           };
       carries = carries;
       repeats = ours-repeats;
@@ -176,9 +208,11 @@ pub ours-counts : PassCounts ours
 ours-counts =
     record {
       performs = own-performs;
+      none = own-exact;
+      none-moves = own-stays;
       exact = own-passes;
       at-least = least;
-      near-best = λ order room taken plan does. omega (arith, own-passes order room taken, least order plan does);
+      near-best = λ order room taken plan does. omega (arith, own-few order room taken, least order plan does);
     }
   where
     least : (order : Order) (plan : Plan) → Performs order plan → roundsFor order ≤ plan .count

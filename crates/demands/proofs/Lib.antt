@@ -6,6 +6,7 @@ pub mod OneStep
 pub mod Chains
 pub mod Repeats
 pub mod Delivers
+pub mod Still
 pub mod Demands
 pub mod Small
 pub mod Useless

@@ -9,7 +9,7 @@ use native.Mathlib.Omega.{arith}
 use lib.Bits.{bitXor}
 use lib.Dec.{eqb}
 use lib.ListN.{getD, take, replicate, List·getD-append}
-use lib.Pow.{pow-lt}
+use lib.Pow.{pow-lt, pow-pos}
 use lib.Seq.{take-append-seam, getD-append-add}
 use Rattle.bank.specs.Limits.{ROWS}
 use Rattle.bank.specs.declared.Geometry.{Geometry}
@@ -34,39 +34,41 @@ use Rattle.demands.specs.Chain.Chain.{noCalls, step, run, strayStep, str
 use Rattle.demands.specs.Numbers.{Ready, StepNumbers}
 use Rattle.demands.specs.Answers.{Answers}
 use Rattle.demands.specs.Delivers.{Reached}
-use Rattle.demands.specs.Possible.{Call, Comes, Possible, again, busyCalls, callsOf, flipOrder, inTurn}
+use Rattle.demands.specs.Possible.{Call, Comes, Possible, again, busyCalls, callsOf, flipOrder, inTurn, xorOrder}
 use Rattle.demands.specs.Possible.Call.{asks, runs}
 use Rattle.order.specs.Address.{sentTo}
 
--- ---- an order that is taken and moves something
+-- ---- an order that is taken: the identity with any c
 
-module _ (g : Geometry) where
-  flip-matrix : matrixOf (flipOrder g) ≡ identity (g .n)
-  flip-matrix =
+module _ (g : Geometry) (c : ℕ) where
+  xor-matrix : matrixOf (xorOrder g c) ≡ identity (g .n)
+  xor-matrix =
       ap (λ (k : ℕ). take k (identity (g .n) ++ replicate (ROWS - g .n) 0)) (sym (identity-length (g .n)))
       ∙ take-append-seam (identity (g .n)) (replicate (ROWS - g .n) 0)
 
-  flip-row : (i : ℕ) → i < g .n → getD (flipOrder g .rows) i 0 ≡ 2 ^ i
-  flip-row i h =
+  xor-row : (i : ℕ) → i < g .n → getD (xorOrder g c .rows) i 0 ≡ 2 ^ i
+  xor-row i h =
       List·getD-append (identity (g .n)) (replicate (ROWS - g .n) 0) 0 i (subst (λ (k : ℕ). i < k) (sym (identity-length (g .n))) h) ∙ identity-at (g .n) i h
 
-  flip-spare : (i : ℕ) → g .n ≤ i → getD (flipOrder g .rows) i 0 ≡ 0
-  flip-spare i h =
+  xor-spare : (i : ℕ) → g .n ≤ i → getD (xorOrder g c .rows) i 0 ≡ 0
+  xor-spare i h =
       ap (λ (k : ℕ). getD (identity (g .n) ++ replicate (ROWS - g .n) 0) k 0) (omega (arith, identity-length (g .n)))
       ∙ getD-append-add (identity (g .n)) (replicate (ROWS - g .n) 0) (i - g .n) 0 ∙ getD-zeros (ROWS - g .n) (i - g .n)
 
-  module _ (inside : inLimits g ≡ true) where
-    flip-form : badForm (flipOrder g) ≡ false
-    flip-form =
-        good-form (flipOrder g) (λ i h. subst (λ (k : ℕ). k < records g) (sym (flip-row i h)) (pow-lt h))
-        (pow-lt {i = 0} (omega (arith, limits→allowed g inside .n-low))) (λ i h l. flip-spare i h)
+  module _ (inside : inLimits g ≡ true) (below : c < records g) where
+    xor-form : badForm (xorOrder g c) ≡ false
+    xor-form =
+        good-form (xorOrder g c) (λ i h. subst (λ (k : ℕ). k < records g) (sym (xor-row i h)) (pow-lt h)) below (λ i h l. xor-spare i h)
 
-    flip-taken : judgement (flipOrder g) ≡ 0
-    flip-taken = regular-none (flipOrder g) inside flip-form (ap (singular (g .n)) flip-matrix ∙ identity-regular (g .n))
+    xor-taken : judgement (xorOrder g c) ≡ 0
+    xor-taken = regular-none (xorOrder g c) inside xor-form (ap (singular (g .n)) xor-matrix ∙ identity-regular (g .n))
 
-    flip-moves : sentTo (flipOrder g) 0 ≡ 1
-    unfolding target
-    flip-moves = ap (λ (k : ℕ). bitXor k 1) (apply-zero (matrixOf (flipOrder g)))
+flip-taken : (g : Geometry) → inLimits g ≡ true → judgement (flipOrder g) ≡ 0
+flip-taken g inside = xor-taken g 1 inside (pow-lt {i = 0} (omega (arith, limits→allowed g inside .n-low)))
+
+flip-moves : (g : Geometry) → inLimits g ≡ true → sentTo (flipOrder g) 0 ≡ 1
+unfolding target
+flip-moves g inside = ap (λ (k : ℕ). bitXor k 1) (apply-zero (matrixOf (flipOrder g)))
 
 -- ---- a chain and another from where it ended
 
@@ -189,6 +191,8 @@ possible =
     record {
       taken = flip-taken;
       moves = flip-moves;
+      still-taken = λ g inside. xor-taken g 0 inside (pow-pos (g .n));
+      still = λ g. (xor-matrix g 0, refl);
       comes = λ M answers delivers order room taken v fitting.
           let own = delivers .own order room taken in
           busy-comes M answers (M .plans order .plan) v

@@ -11,7 +11,7 @@ use Rattle.bank.specs.declared.Geometry.{Geometry}
 use Rattle.bank.specs.Geometry.{inLimits, loadAt, tierAt, tiers}
 use Rattle.algebra.specs.Search.{leastFrom, least, anyBelow, firstOf, which, listed}
 use Rattle.algebra.specs.Vector.{bit, parity, unlessZero, comb, unitVectors}
-use Rattle.algebra.specs.Matrix.{applied, target, columns, kills, singular, marked, source, after, inverse}
+use Rattle.algebra.specs.Matrix.{applied, target, columns, identity, isIdentity, kills, singular, marked, source, after, inverse}
 use Rattle.order.specs.declared.Order.{Order}
 use Rattle.order.specs.Order.{strayRow, strayComplement, spareRow, badForm, judgement, formNumber}
 use Rattle.order.specs.Address.{sentTo}
@@ -42,7 +42,7 @@ use Rattle.demands.specs.Delivers.{Runnable}
 
 -- ---- the order: n 2, b 0, d 0, m 1, R 1; 0 and 1 change places, 2 and 3 stay
 
-abbrev bank : Geometry
+abbrev pub bank : Geometry
 bank = record { n = 2; b = 0; d = 0; m = 1; r = 1 }
 
 abbrev pub small : Order
@@ -62,7 +62,7 @@ abbrev pub plan : Plan
 plan = record { geometry = bank; count = 1; rows = 3 ∷ 2 ∷ replicate (PASSES * ROWS - 2) 0; complements = 1 ∷ replicate (PASSES - 1) 0 }
 
 pub small-plan : plannedFor small .plan ≡ plan
-unfolding ones leastFrom least anyBelow firstOf which listed bit parity unlessZero comb unitVectors applied columns marked complemented after
+unfolding ones leastFrom least anyBelow firstOf which listed bit parity unlessZero comb unitVectors identity isIdentity applied columns marked complemented after
     adding source target inverse phi delta zeroColumn onlyMarked reached chosen unmarked partner step1 summands step2 operations busy rounds
     firstAfter passMatrices passesFor planFor planOf storedRows storedComplements
 small-plan = ap (λ (a : Planned). a .plan) (planned-taken small small-taken)

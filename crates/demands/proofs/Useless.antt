@@ -1,10 +1,11 @@
 -- Why is each useless mover shut out? By one small order. Assumes nothing.
-use mathlib.Core.Path.{_≡_, refl, sym, ap, _∙_, subst}
+use mathlib.Core.Path.{_≡_, refl, sym, ap, ap₂, _∙_, subst}
+use mathlib.Core.Bool.{cond, true≢false}
 use mathlib.Core.List.{List, [], _∷_}
 use Prim.Native.Nat.{ℕ, _<_, _^_}
 use native.Mathlib.Omega.{arith}
 use native.Mathlib.Nat.{mod-lt}
-use lib.Dec.{lit<}
+use lib.Dec.{eqb, lit<}
 use lib.ListN.{getD, replicate}
 use Rattle.bank.specs.Limits.{ROWS}
 use Rattle.bank.specs.declared.Geometry.{Geometry}
@@ -12,17 +13,20 @@ use Rattle.bank.specs.Checks.{handed}
 use Rattle.bank.specs.Geometry.{inLimits, tierAt, tiers}
 use Rattle.algebra.specs.Search.{least, leastFrom, anyBelow}
 use Rattle.algebra.specs.Vector.{WORD, unitVectors}
-use Rattle.algebra.specs.Matrix.{identity}
+use Rattle.algebra.specs.Matrix.{identity, isIdentity}
 use Rattle.algebra.proofs.Lists.{getD-zeros}
 use Rattle.order.specs.declared.address.Target.{Target}
-use Rattle.order.specs.Order.{Words}
+use Rattle.order.specs.Order.{Words, matrixOf}
 use Rattle.order.specs.Address.{questionNumber}
+use Rattle.order.proofs.Accepted.{judgement→accepted, matrix-length}
 use Rattle.order.proofs.Asked.{number-none}
 use Rattle.planning.specs.Pass.{loadSteps, passSteps, phases}
 use Rattle.planning.specs.State.{freshState}
-use Rattle.planning.specs.Stored.{routeOf}
-use Rattle.planning.proofs.Running.{sound→runs}
-use Rattle.planning.proofs.Stored.{route-length}
+use Rattle.planning.specs.Making.{passesMade}
+use Rattle.planning.specs.Stored.{emptyPlan, planOf, routeOf}
+use Rattle.planning.proofs.Made.{made-length}
+use Rattle.planning.proofs.Running.{sound→can-run}
+use Rattle.plan.specs.Answer.{plannedFor}
 use Rattle.running.specs.Total.{resultArea, totalSteps}
 use Rattle.moving.specs.Bytes.{copied, each, eachFrom, recordOf}
 use Rattle.moving.specs.Number.{loadOf, passOf, phaseOf}
@@ -34,17 +38,22 @@ use Rattle.listing.specs.Listing.{listing, headLines}
 use Rattle.demands.specs.Chain.{newSteps, momentOf}
 use Rattle.demands.specs.Chain.Called.{allowed}
 use Rattle.demands.specs.Chain.Chain.{noCalls, run}
+use Rattle.demands.specs.Answers.{Answers}
 use Rattle.demands.specs.Delivers.{Carries, Delivered, Delivers, Reached, areaNamed}
 use Rattle.demands.specs.Mover.{Mover, beginning}
-use Rattle.demands.specs.Possible.{flipOrder}
+use Rattle.demands.specs.Possible.{flipOrder, stillOrder}
 use Rattle.demands.specs.OneStep.{MoveMade, ReadStep}
 use Rattle.demands.specs.Repeats.{quiet}
 use Rattle.demands.specs.Sends.{Sends}
-use Rattle.demands.specs.Useless.{Broken, beginsAtOne, inventsTotals, movesAll, movesNothing, otherArea, readsWholeLoad, refusesAll}
-use Rattle.demands.specs.Useless.{refusesRuns, refusesSteps, stepsMoveNothing, takesIdentityAlone, toItself, toZero, wrapsSize, wrapsTotals}
+use Rattle.demands.specs.Still.{CostsNothing}
+use Rattle.demands.specs.Useless.{Broken, alwaysPasses, beginsAtOne, inventsTotals, movesAll, movesNothing, otherArea, plansWithoutC, readsWholeLoad}
+use Rattle.demands.specs.Useless.{refusesAll, refusesNoPasses, refusesRuns, refusesSteps, stepsMoveNothing, takesIdentityAlone, toItself, toZero, wrapsSize, wrapsTotals}
+use Rattle.demands.proofs.Answers.{ours-answers}
+use Rattle.demands.proofs.Delivers.{ours-delivers, own-passes}
 use Rattle.demands.proofs.Possible.{possible}
 use Rattle.demands.proofs.Sends.{ours-sends}
-use Rattle.demands.proofs.Small.{small, small-taken, sent-0, plan, small-plan, small-sound, small-runs, eight, holding, start, end, atStep, start-fits}
+use Rattle.demands.proofs.Still.{ours-still}
+use Rattle.demands.proofs.Small.{bank, small, small-taken, sent-0, plan, small-plan, small-sound, small-runs, eight, holding, start, end, atStep, start-fits}
 use Rattle.demands.proofs.Small.{moved-all, ended, run-promised, reads-first, tier-first, step-promised, again-promised}
 
 -- ---- what the demands make of the small order
@@ -93,15 +102,49 @@ no-wrapped-total h =
     let flip = flipOrder widest in
     let own = h .own flip refl (possible .taken widest refl) in
     let made = wrapsTotals .plans flip .plan in
-    let runs = sound→runs made (own .runs .room) (own .runs .can-run) in
+    let some = own-passes flip refl (possible .taken widest refl) (λ s. omega (arith, s .1)) in
     let steps = rw (own .on-its-bank) at (h .carries made (own .runs) .steps) in
     let below = mod-lt (totalSteps made) {m = 2 ^ WORD} (lit< tt) in
-    omega (arith, steps, below, runs .some-pass, route-length made)
+    omega (arith, steps, below, some)
+
+-- ---- plans of no passes, on the small order's bank
+
+-- what stays where it is began at 1 too
+no-dropped-complement : Delivers plansWithoutC → ⊥
+unfolding inLimits identity unitVectors areaNamed
+no-dropped-complement h =
+    let still = ours-still (stillOrder bank) refl (possible .still-taken bank refl) (possible .still bank) in
+    let moved = h .own (flipOrder bank) refl (possible .taken bank refl) .delivers start start-fits [] (beginning plansWithoutC start) noCalls
+    (sym (still .no-step)) 0 (omega arith) in
+    let at : ℕ → ℕ → ℕ = λ area y. getD (recordOf 1 (areaNamed area start) y) 0 0 in
+    omega (arith, sym (ap₂ at (still .in-area-0) (possible .moves bank refl)) ∙ ap (λ (l : List ℕ). getD l 0 0) moved)
+
+no-pass-for-nothing : CostsNothing alwaysPasses → ⊥
+unfolding inLimits identity unitVectors planOf
+no-pass-for-nothing h =
+    let order = stillOrder bank in
+    let taken = possible .still-taken bank refl in
+    let k = judgement→accepted order taken in
+    let none = h order refl taken (possible .still bank) .no-pass in
+    let made : ℕ → ℕ = λ number. handed number (planOf (record { geometry = bank; passes = passesMade bank (matrixOf order) 0 })) emptyPlan .count in
+    omega (arith, sym (ap made taken) ∙ none, made-length bank (matrixOf order) 0 refl (matrix-length order refl refl) (k .regular))
+
+no-refused-nothing : Answers refusesNoPasses → ⊥
+unfolding inLimits identity unitVectors numberOf
+no-refused-nothing h =
+    let still = ours-still (stillOrder bank) refl (possible .still-taken bank refl) (possible .still bank) in
+    let made = plannedFor (stillOrder bank) .plan in
+    let answer = ours-answers .step-some made (begun start) 0 in
+    let refused : Refused 7 freshState ≡ cond (eqb (made .count) 0) (Refused 7 freshState) (answer .0)
+    = ap (λ (k : ℕ). cond (eqb k 0) (Refused 7 freshState) (answer .0)) (sym (still .no-pass)) in
+    let seven = h .numbered .of-step made (begun start) 0 (Refused 7 freshState) (answer .1) (answer .0, answer .2, refused) .gives-7 .0 refl in
+    let sound = ours-delivers .own (stillOrder bank) refl (possible .still-taken bank refl) .runs .can-run in
+    true≢false (sym (sound→can-run made freshState sound (omega arith)) ∙ seven)
 
 -- ---- each of them
 
 pub broken : Broken
-unfolding anyBelow least leastFrom areaNamed resultArea listing headLines newSteps numberOf stateOf quiet copied each eachFrom readFrom routeOf loadOf passOf
+unfolding isIdentity identity unitVectors anyBelow least leastFrom areaNamed resultArea listing headLines newSteps numberOf stateOf quiet copied each eachFrom readFrom routeOf loadOf passOf
     phaseOf passSteps loadSteps phases tiers tierAt
 broken =
     record {
@@ -139,6 +182,9 @@ broken =
           omega (arith, again .0);
       refusesSteps-fails = λ h. omega (arith, no-calls refusesSteps h .goes-on (omega (arith, eight)) (Refused 7 freshState) start (refl, refl));
       refusesRuns-fails = λ h. omega (arith, no-calls refusesRuns h .runs-on 8 (record { number = 7; count = 0; state = freshState }) start (refl, refl));
+      plansWithoutC-fails = no-dropped-complement;
+      alwaysPasses-fails = no-pass-for-nothing;
+      refusesNoPasses-fails = no-refused-nothing;
       promisesTooMuch-fails = λ h. h .step-some plan (begun start) 0 .2;
       promisesNothing-fails = λ h.
           let e = h .step-one plan (begun start) 0 (Done freshState) (Done freshState) (holding 0 0) (holding 1 0) tt tt .1 in

@@ -37,6 +37,9 @@ pub record Answers (M : Mover) : Type 0 where
   -- planning: the number of the judgement, and the empty plan with a refusal
   pub plan-number : (order : Order) → M .plans order .number ≡ M .judges order
   pub plan-refused : (order : Order) → Refusal (M .judges order) → M .plans order .plan ≡ emptyPlan
+  -- the empty plan can't run: every step and every run of it is 7
+  pub empty-step : (m : Moment) (k : ℕ) (r : Stepped) (w : Buffers) → M .step emptyPlan m k r w → numberOf r ≡ 7
+  pub empty-run : (m : Moment) (q : ℕ) (r : Ran) (w : Buffers) → M .run emptyPlan m q r w → r .number ≡ 7
   -- a step: one step on with 0, the state unchanged with 9, state and bytes unchanged with a refusal; and one outcome
   pub step-done : (plan : Plan) (m : Moment) (k : ℕ) (r : Stepped) (w : Buffers) → M .step plan m k r w
       → numberOf r ≡ 0 → stateOf r .next .0 ≡ m .state .next .0 + 1

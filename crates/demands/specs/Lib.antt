@@ -9,6 +9,7 @@ pub mod OneStep
 pub mod Repeats
 pub mod Delivers
 pub mod Demands
+pub mod Still
 pub mod PassCounts
 pub mod Chains
 pub mod Useless

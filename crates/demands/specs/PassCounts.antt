@@ -1,18 +1,28 @@
 -- How many passes has a plan, and could fewer do? Assumes nothing.
 use mathlib.Core.Path.{_≡_}
-use Prim.Native.Nat.{_+_, _≤_}
+use mathlib.Core.Logic.{_↔_}
+use Prim.Native.Nat.{ℕ, _+_, _≤_}
 use lib.ListN.{length}
 use Rattle.bank.specs.Limits.{ROWS}
 use Rattle.order.specs.declared.Order.{Order}
+use Rattle.order.specs.Address.{sentTo}
 use Rattle.planning.specs.declared.Plan.{Plan}
 use Rattle.demands.specs.Mover.{Mover}
+use Rattle.demands.specs.Sends.{AddressOf}
 use Rattle.demands.specs.Delivers.{Performs, roundsFor}
+use Rattle.demands.specs.Still.{StillOrder}
 
 pub record PassCounts (M : Mover) : Type 0 where
   -- the plan of an order that is taken performs it
   pub performs : (order : Order) → length (order .rows) ≡ ROWS → M .judges order ≡ 0 → Performs order (M .plans order .plan)
-  -- the plan of an order that is taken has as many passes as rounds, rank φ/(m - b) rounded up, and one more
-  pub exact : (order : Order) → length (order .rows) ≡ ROWS → M .judges order ≡ 0 → M .plans order .plan .count ≡ roundsFor order + 1
+  -- it has no pass exactly where A is the identity and c is 0
+  pub none : (order : Order) → length (order .rows) ≡ ROWS → M .judges order ≡ 0 → (M .plans order .plan .count ≡ 0) ↔ StillOrder order
+  -- and that is where no record need move
+  pub none-moves : (order : Order) → length (order .rows) ≡ ROWS → M .judges order ≡ 0
+      → StillOrder order ↔ ((x : ℕ) → AddressOf order x → sentTo order x ≡ x)
+  -- for every other order it has as many passes as rounds, rank φ/(m - b) rounded up, and one more
+  pub exact : (order : Order) → length (order .rows) ≡ ROWS → M .judges order ≡ 0 → (StillOrder order → ⊥)
+      → M .plans order .plan .count ≡ roundsFor order + 1
   -- no plan that performs an order has fewer passes than it has rounds, whoever made it
   pub at-least : (order : Order) (plan : Plan) → Performs order plan → roundsFor order ≤ plan .count
   -- the mover's own plan is never more than one pass longer than another that performs the order

@@ -1,4 +1,4 @@
--- Do the demands speak of anything? At every geometry inside the limits an order that moves something is taken,
+-- Do the demands speak of anything? At every geometry inside the limits an order that moves something is taken, and one that moves nothing;
 -- and every mover that has demands 1 and 3 comes to the end of each order that it takes.
 -- Assumes nothing.
 use mathlib.Core.Path.{_≡_}
@@ -21,10 +21,19 @@ use Rattle.demands.specs.Chain.{Called, Chain}
 use Rattle.demands.specs.Chain.Called.{asked, allowed, strayAsked, strayAllowed}
 use Rattle.demands.specs.Answers.{Answers}
 use Rattle.demands.specs.Delivers.{Delivers}
+use Rattle.demands.specs.Still.{StillOrder}
 
--- the order that sends x to x xor 1
+-- the order that sends x to x xor c
+abbrev pub xorOrder : Geometry → ℕ → Order
+xorOrder g c = record { geometry = g; rows = identity (g .n) ++ replicate (ROWS - g .n) 0; complement = c }
+
+-- x to x xor 1
 abbrev pub flipOrder : Geometry → Order
-flipOrder g = record { geometry = g; rows = identity (g .n) ++ replicate (ROWS - g .n) 0; complement = 1 }
+flipOrder g = xorOrder g 1
+
+-- x to x
+abbrev pub stillOrder : Geometry → Order
+stillOrder g = xorOrder g 0
 
 -- ---- a chain with repeats, refused calls and runs in it
 
@@ -66,6 +75,8 @@ pub record Comes (M : Mover) (plan : Plan) (v : Buffers) (these : List Call) : T
 pub record Possible : Type 1 where
   pub taken : (g : Geometry) → inLimits g ≡ true → ours .judges (flipOrder g) ≡ 0
   pub moves : (g : Geometry) → inLimits g ≡ true → sentTo (flipOrder g) 0 ≡ 1
+  pub still-taken : (g : Geometry) → inLimits g ≡ true → ours .judges (stillOrder g) ≡ 0
+  pub still : (g : Geometry) → StillOrder (stillOrder g)
   pub comes : (M : Mover) → Answers M → Delivers M → (order : Order) → length (order .rows) ≡ ROWS → M .judges order ≡ 0
       → (v : Buffers) → buffersFit (order .geometry) v ≡ true → (k : ℕ) → k ≤ M .total (M .plans order .plan) → (more : ℕ → ℕ)
       → Comes M (M .plans order .plan) v (busyCalls (M .total (M .plans order .plan)) k more)

@@ -1,23 +1,25 @@
 -- Which movers are of no use, and which demand does each of them break? Each is ours but for what its name says. Assumes nothing.
 use mathlib.Core.Path.{_≡_}
-use mathlib.Core.Bool.{true, not, cond, _&&_}
+use mathlib.Core.Bool.{true, cond, _&&_}
 use mathlib.Core.List.{List}
 use Prim.Native.Nat.{ℕ, _+_, _-_, _%_, _^_}
 use lib.Dec.{eqb}
-use lib.ListN.{getD}
-use Rattle.algebra.specs.Search.{anyBelow}
+use Rattle.algebra.specs.Matrix.{isIdentity}
 use Rattle.algebra.specs.Vector.{WORD}
 use Rattle.bank.specs.Checks.{handed}
 use Rattle.bank.specs.Geometry.{inLimits}
 use Rattle.order.specs.declared.Order.{Order}
 use Rattle.order.specs.declared.address.Target.{Target}
 use Rattle.order.specs.declared.address.Source.the-variants.{Refused as NoSource}
-use Rattle.order.specs.Order.{judgement}
+use Rattle.order.specs.Order.{judgement, matrixOf}
 use Rattle.order.specs.Address.{questionNumber, targetOf}
 use Rattle.planning.specs.declared.Plan.{Plan}
 use Rattle.planning.specs.declared.state.State.{State}
 use Rattle.planning.specs.State.{freshState}
-use Rattle.planning.specs.Stored.{emptyPlan, routeOf}
+use Rattle.planning.specs.Making.{passesMade}
+use Rattle.planning.specs.Stored.{emptyPlan, planOf, routeOf}
+use Rattle.plan.specs.declared.make.Planned.{Planned}
+use Rattle.plan.specs.Answer.{plannedFor}
 use Rattle.running.specs.Total.{totalSteps, resultArea}
 use Rattle.moving.specs.Bytes.{copied}
 use Rattle.moving.specs.Number.{passOf, loadOf, phaseOf}
@@ -33,16 +35,17 @@ use Rattle.demands.specs.Ours.{ours}
 use Rattle.demands.specs.Answers.{Answers}
 use Rattle.demands.specs.Sends.{Sends}
 use Rattle.demands.specs.Delivers.{Delivers}
+use Rattle.demands.specs.Still.{CostsNothing}
 
--- ours but for these; a question backwards and planning are answered as ours are
-abbrev altered : (Order → ℕ) → (Order → ℕ → Target) → (Plan → ℕ) → (Plan → ℕ) → State → StepRule → RunRule
+-- ours but for these; a question backwards is answered as ours is
+abbrev altered : (Order → ℕ) → (Order → ℕ → Target) → (Order → Planned) → (Plan → ℕ) → (Plan → ℕ) → State → StepRule → RunRule
     → (List ℕ → ℕ → Order → Type 0) → (Plan → List ℕ → ℕ) → (Plan → List ℕ → List ℕ) → Mover
-altered judges sends total area fresh step run reads lists leaves =
+altered judges sends plans total area fresh step run reads lists leaves =
     record {
       judges = judges;
       sends = sends;
       finds = ours .finds;
-      plans = ours .plans;
+      plans = plans;
       total = total;
       area = area;
       fresh = fresh;
@@ -55,15 +58,19 @@ altered judges sends total area fresh step run reads lists leaves =
 
 -- ours with other answers on orders and addresses
 abbrev answering : (Order → ℕ) → (Order → ℕ → Target) → Mover
-answering judges sends = altered judges sends totalSteps resultArea freshState StepPromise RunPromise Reads written roomAfter
+answering judges sends = altered judges sends plannedFor totalSteps resultArea freshState StepPromise RunPromise Reads written roomAfter
+
+-- ours with other plans
+abbrev planning : (Order → Planned) → Mover
+planning plans = altered judgement targetOf plans totalSteps resultArea freshState StepPromise RunPromise Reads written roomAfter
 
 -- ours with other totals, areas, starts, steps and runs
 abbrev stepping : (Plan → ℕ) → (Plan → ℕ) → State → StepRule → RunRule → Mover
-stepping total area fresh step run = altered judgement targetOf total area fresh step run Reads written roomAfter
+stepping total area fresh step run = altered judgement targetOf plannedFor total area fresh step run Reads written roomAfter
 
 -- ours with other readings and listings
 abbrev writing : (List ℕ → ℕ → Order → Type 0) → (Plan → List ℕ → ℕ) → (Plan → List ℕ → List ℕ) → Mover
-writing reads lists leaves = altered judgement targetOf totalSteps resultArea freshState StepPromise RunPromise reads lists leaves
+writing reads lists leaves = altered judgement targetOf plannedFor totalSteps resultArea freshState StepPromise RunPromise reads lists leaves
 
 -- ---- the six of the rules
 
@@ -149,8 +156,7 @@ readsWholeLoad = stepping totalSteps resultArea freshState loadStep RunPromise
 abbrev pub takesIdentityAlone : Mover
 takesIdentityAlone =
     answering
-    (λ order. let other = anyBelow (λ i. not (eqb (getD (order .rows) i 0) (2 ^ i))) (order .geometry .n) in
-    handed (judgement order) (cond other 3 0) (judgement order))
+    (λ order. handed (judgement order) (cond (isIdentity (order .geometry .n) (matrixOf order)) 0 3) (judgement order))
     targetOf
 
 -- it refuses a repeat by 5
@@ -176,6 +182,25 @@ wrapsSize = answering (λ order. cond (inLimits (order .geometry) && eqb (order 
 
 abbrev pub wrapsTotals : Mover
 wrapsTotals = stepping (λ plan. totalSteps plan % 2 ^ WORD) resultArea freshState StepPromise RunPromise
+
+-- it makes passes for every order, for one that leaves every record where it is too
+abbrev pub alwaysPasses : Mover
+alwaysPasses =
+    planning
+    (λ order. let g = order .geometry in
+    let made = planOf (record { geometry = g; passes = passesMade g (matrixOf order) (order .complement) }) in
+    record { number = judgement order; plan = handed (judgement order) made emptyPlan })
+
+-- it plans as if c were 0, and so makes no pass for the identity with any c
+abbrev pub plansWithoutC : Mover
+plansWithoutC = planning (λ order. plannedFor (record { geometry = order .geometry; rows = order .rows; complement = 0 }))
+
+-- it refuses the steps of a plan of no passes by 7
+abbrev passStep : StepRule
+passStep plan m k r w = (s : Stepped) × StepPromise plan m k s w × (r ≡ cond (eqb (plan .count) 0) (Refused 7 (m .state)) s)
+
+abbrev pub refusesNoPasses : Mover
+refusesNoPasses = stepping totalSteps resultArea freshState passStep RunPromise
 
 -- it reads no text, or lists no plan
 abbrev pub readsNothing : Mover
@@ -212,6 +237,9 @@ pub record Broken : Type 0 where
   pub refusesRepeats-fails : Delivers refusesRepeats → ⊥
   pub refusesSteps-fails : Delivers refusesSteps → ⊥
   pub refusesRuns-fails : Delivers refusesRuns → ⊥
+  pub plansWithoutC-fails : Delivers plansWithoutC → ⊥
+  pub alwaysPasses-fails : CostsNothing alwaysPasses → ⊥
+  pub refusesNoPasses-fails : Answers refusesNoPasses → ⊥
   pub promisesTooMuch-fails : Answers promisesTooMuch → ⊥
   pub promisesNothing-fails : Answers promisesNothing → ⊥
   pub listsNothing-fails : Answers listsNothing → ⊥

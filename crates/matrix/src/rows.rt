@@ -4,7 +4,7 @@ ghost use mathlib.Core.List.{_++_};
 ghost use Prim.Native.Nat.{_≤_, _-_};
 ghost use lib.ListN.{take, drop, replicate};
 ghost use Rattle.bank.specs.Limits.{ROWS};
-ghost use Rattle.algebra.specs.Matrix.{after, applied, columns, identity};
+ghost use Rattle.algebra.specs.Matrix.{after, applied, columns, identity, isIdentity};
 use crate::vector::parity;
 use crate::vector::power;
 use crate::vector::sum;
@@ -81,4 +81,19 @@ pub fn identity(n: usize) -> [u32; ROWS]
         i += 1;
     }
     rows
+}
+
+// Whether the first n rows are those of the identity.
+pub fn is_identity(rows: &[u32; ROWS], n: usize) -> bool
+    requires { ⌜ n ≤ ROWS ⌝ }
+    ensures { λ r. ⌜ r ≡ isIdentity n (take n (now (rows .entry))) ⌝ }
+{
+    let mut i = 0;
+    while i < n {
+        if rows[i] != power(i as u32) {
+            return false;
+        }
+        i += 1;
+    }
+    true
 }

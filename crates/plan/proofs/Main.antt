@@ -1,5 +1,5 @@
 -- What is proved of a planning call? The order is the one asked about; an array of rows has room for ROWS of them. Assumes nothing.
-use mathlib.Core.Path.{_≡_, refl, subst, sym}
+use mathlib.Core.Path.{_∙_, _≡_, ap, refl, subst, sym}
 use mathlib.Core.Bool.{true}
 use Prim.Native.Nat.{_+_, _-_, _<_, ℕ}
 use lib.ListN.{length}
@@ -10,12 +10,14 @@ use Rattle.order.specs.Order.{judgement, matrixOf}
 use Rattle.order.specs.declared.Order.{Order}
 use Rattle.order.proofs.Accepted.{complement-below, judgement→accepted, matrix-length}
 use Rattle.planning.specs.Columns.{phi}
+use Rattle.planning.specs.Facts.{Still}
 use Rattle.planning.specs.Making.{dividedUp}
 use Rattle.planning.specs.Pass.{performed}
 use Rattle.planning.specs.Running.{sound}
 use Rattle.planning.specs.Stored.{planFor, planOf, routeOf}
 use Rattle.planning.specs.declared.Plan.{Plan}
 use Rattle.planning.proofs.Made.{made-length, made-performs, made-route, made-sound}
+use Rattle.planning.proofs.Still.{other-passes, still-passes}
 use Rattle.plan.specs.Answer.{plannedFor}
 use Rattle.plan.specs.declared.make.Planned.{Planned}
 use Rattle.plan.proofs.Answered.{planned-taken}
@@ -28,9 +30,11 @@ pub record Makes (order : Order) (plan : Plan) : Type 0 where
   pub sound-plan : sound plan ≡ true
   -- its passes take every x to Ax xor c
   pub performs : (x : ℕ) → x < records (order .geometry) → performed (routeOf plan .passes) x ≡ target (matrixOf order) (order .complement) x
-  -- there are rank φ divided by m - b, rounded up, and one more
+  -- there is none where no record need move ..
+  pub no-pass : Still (order .geometry .n) (matrixOf order) (order .complement) → plan .count ≡ 0
+  -- .. and else rank φ divided by m - b, rounded up, and one more
   pub passes :
-      plan .count
+      (Still (order .geometry .n) (matrixOf order) (order .complement) → ⊥) → plan .count
       ≡ dividedUp (rank (phi (order .geometry .m) (columns (order .geometry .n) (matrixOf order))) (order .geometry .m))
       (order .geometry .m - order .geometry .b) + 1
 
@@ -51,5 +55,6 @@ module _ (order : Order) (room : length (order .rows) ≡ ROWS) (taken : judgeme
             on-its-bank = unfold planFor planOf in refl;
             sound-plan = made-sound g A c (k .inside) long (k .regular) below;
             performs = λ x h. rw (made-route g A c (k .inside) long (k .regular) below) (made-performs g A c (k .inside) long (k .regular) x h);
-            passes = unfold planFor planOf in made-length g A c (k .inside) long (k .regular);
+            no-pass = λ s. unfold planFor planOf in ap length (still-passes g A c long s);
+            passes = λ f. unfold planFor planOf in ap length (other-passes g A c long f) ∙ made-length g A c (k .inside) long (k .regular);
           }

@@ -1,17 +1,19 @@
 -- What has the making of a plan stored, and what is still to come? Assumes nothing.
 use mathlib.Core.Path.{_∙_, _≡_, ap, ap₂, refl, subst, sym}
-use mathlib.Core.Bool.{false, true}
+use mathlib.Core.Bool.{Bool, _&&_, false, true}
 use mathlib.Core.List.{List, [], _∷_, _++_, append-assoc, map}
 use Prim.Native.Nat.{_*_, _+_, _-_, _<_, _≤_, ℕ}
 use native.Mathlib.Nat.{sub-zero}
 use native.Mathlib.Omega.{arith}
+use lib.Dec.{eqb}
 use lib.ListN.{drop, length, length-append, length-map, replicate, take}
 use lib.Seq.{ext-getD, length-take-le}
+use borrow.Author.Tests.{eq-eqb, ne-eqb}
 use Rattle.bank.proofs.Limits.{limits→allowed, Allowed}
 use Rattle.bank.specs.Geometry.{inLimits}
 use Rattle.bank.specs.Limits.{PASSES, ROWS}
 use Rattle.bank.specs.declared.Geometry.{Geometry}
-use Rattle.algebra.specs.Matrix.{after, columns, identity, singular}
+use Rattle.algebra.specs.Matrix.{after, columns, identity, isIdentity, singular}
 use Rattle.algebra.specs.Vector.{comb}
 use Rattle.algebra.proofs.Columns.{columns-length, identity-at, identity-length}
 use Rattle.algebra.proofs.Linear.{comb-one, after-length, after-at}
@@ -19,7 +21,7 @@ use Rattle.algebra.proofs.Lists.{All}
 use Rattle.algebra.proofs.Questions.{columns-whole}
 use Rattle.algebra.proofs.Rank.{rank-le}
 use Rattle.planning.specs.Columns.{phi}
-use Rattle.planning.specs.Making.{busy, firstAfter, operations, passMatrices, passesFor, roundLeft, roundPass, rounds}
+use Rattle.planning.specs.Making.{busy, firstAfter, operations, passMatrices, passesFor, passesMade, roundLeft, roundPass, rounds}
 use Rattle.planning.specs.Pass.{Pass, complemented}
 use Rattle.planning.specs.Facts.{nonzero}
 use Rattle.planning.specs.Stored.{planFor, planOf}
@@ -32,7 +34,7 @@ use Rattle.planning.proofs.Step2.{operations-length, operations-inverse}
 use Rattle.planner.proofs.Products.{take-front}
 use Rattle.planner.proofs.Steps.{held-take}
 use Rattle.plan.specs.Store.{withPass}
-use Rattle.plan.proofs.Storing.{stored-more, stored-none}
+use Rattle.plan.proofs.Storing.{stored-more}
 use Rattle.planning.specs.Inner.{RoundReady}
 
 -- the rows of A Q, array by array
@@ -209,22 +211,21 @@ module _ (g : Geometry) (array : List ℕ) (c : ℕ) (inside : inLimits g ≡ tr
   q-front = take-front (g .n) q P (replicate (ROWS - g .n) 0) (operations-length (g .n) (g .m) hm (columns (g .n) rows)) q-is
 
   -- at the start all passes are to come
-  all-ahead : passesFor g rows c ≡ all
-  unfolding passesFor passMatrices
+  all-ahead : passesMade g rows c ≡ all
+  unfolding passMatrices
   all-ahead =
       ap (λ (l : List ℕ). ahead (g .m) (g .n) (g .b) (g .m) moved l c) (operations-inverse (g .n) (g .m) hm (columns (g .n) rows))
       ∙ sym (ap₂ (λ (l p : List ℕ). ahead (g .m) (g .n) (g .b) (g .m) l p c) cols-front q-front)
 
-  pub make-start : (plan : Plan) → plan ≡ record { geometry = g; count = 0; rows = replicate (PASSES * ROWS) 0; complements = replicate PASSES 0 }
-      → Making g (g .n) (g .b) (g .m) c all plan (take (g .n) cols) (take (g .n) q) 0
-  make-start plan e = record {
+  start : Making g (g .n) (g .b) (g .m) c all (planOf (record { geometry = g; passes = [] })) (take (g .n) cols) (take (g .n) q) 0
+  start = record {
     below = k .block-below;
     memory-below = k .memory-below;
     wide = k .n-high;
     few = subst (λ (l : List Pass). length l ≤ PASSES) all-ahead (made-few g rows c inside rows-length regular);
     done = [];
     counted = refl;
-    stored = e ∙ sym (stored-none g);
+    stored = refl;
     comes = ap (λ (i : ℕ). ahead i (g .n) (g .b) (g .m) (take (g .n) cols) (take (g .n) q) c) (sub-zero (g .m));
     ready = subst (RoundReady (g .n) (g .m)) (sym cols-front) moved-is;
     enough =
@@ -232,7 +233,32 @@ module _ (g : Geometry) (array : List ℕ) (c : ℕ) (inside : inLimits g ≡ tr
         (omega (arith, moved-nonzero (g .n) (g .b) (g .m) (k .block-below) hm rows rows-length regular, rank-le (phi (g .m) (columns (g .n) rows)) (g .m)));
   }
 
-  -- and where all are stored, the plan is made
-  pub make-whole : planOf (record { geometry = g; passes = all }) ≡ planFor g rows c
-  unfolding planFor
-  make-whole = ap (λ (l : List Pass). planOf (record { geometry = g; passes = l })) (sym all-ahead)
+  -- the plan that the passes go into
+  module _ (plan : Plan) (e : plan ≡ planOf (record { geometry = g; passes = [] })) where
+    pub make-start : Making (plan .geometry) (g .n) (g .b) (g .m) c all plan (take (g .n) cols) (take (g .n) q) 0
+    unfolding planOf
+    make-start = subst (λ (x : Plan). Making (x .geometry) (g .n) (g .b) (g .m) c all x (take (g .n) cols) (take (g .n) q) 0) (sym e) start
+
+    -- and where all are stored, the plan is made
+    pub make-whole : planOf (record { geometry = plan .geometry; passes = all }) ≡ planOf (record { geometry = g; passes = passesMade g rows c })
+    unfolding planOf
+    make-whole = ap₂ (λ (x : Plan) (l : List Pass). planOf (record { geometry = x .geometry; passes = l })) e (sym all-ahead)
+
+-- ---- the order's plan, by the test for an order that moves no record
+module _ (g : Geometry) (rows : List ℕ) (c : ℕ) where
+  pub plan-none : isIdentity (g .n) rows && eqb c 0 ≡ true → planOf (record { geometry = g; passes = [] }) ≡ planFor g rows c
+  unfolding planFor passesFor
+  plan-none e = rw e refl
+
+  pub plan-some : isIdentity (g .n) rows && eqb c 0 ≡ false → planOf (record { geometry = g; passes = passesMade g rows c }) ≡ planFor g rows c
+  unfolding planFor passesFor
+  plan-some e = rw e refl
+
+-- the test itself: by c alone where that isn't 0, and else by the rows
+pub test-moved : (a : Bool) (c : ℕ) → (c ≡ 0 → ⊥) → a && eqb c 0 ≡ false
+test-moved true c h = ne-eqb c 0 h
+test-moved false c h = refl
+
+pub test-rows : (a : Bool) (c : ℕ) → c ≡ 0 → a && eqb c 0 ≡ a
+test-rows true c e = eq-eqb c 0 e
+test-rows false c e = refl

@@ -1,20 +1,24 @@
 // The plan for an order.
 ghost use mathlib.Core.Path.{_≡_};
-ghost use mathlib.Core.Bool.{true, false};
+ghost use mathlib.Core.Bool.{true, false, _&&_};
 ghost use mathlib.Core.List.{_++_};
 ghost use Prim.Native.Nat.{_≤_, _-_};
+ghost use lib.Dec.{eqb};
 ghost use lib.ListN.{take, replicate};
 ghost use Rattle.bank.specs.Limits.{ROWS};
 ghost use Rattle.bank.specs.Geometry.{inLimits};
-ghost use Rattle.algebra.specs.Matrix.{columns, singular, after};
-ghost use Rattle.planning.specs.Stored.{planFor};
+ghost use Rattle.algebra.specs.Matrix.{columns, isIdentity, singular, after};
+ghost use Rattle.planning.specs.Making.{passesMade};
+ghost use Rattle.planning.specs.Stored.{planFor, planOf};
 ghost use Rattle.plan.specs.Answer.{plannedFor};
 use crate::store::empty_plan;
+use crate::store::no_passes;
 use crate::store::with_pass;
 use bank::Geometry;
 use bank::ROWS;
 use matrix::rows::columns;
 use matrix::rows::identity;
+use matrix::rows::is_identity;
 use matrix::rows::product;
 use order::Order;
 use planner::operations::operate;
@@ -37,17 +41,16 @@ fn rows_after(a: &[u32; ROWS], q: &[u32; ROWS], n: usize) -> [u32; ROWS]
     columns(&both, 0, n, n)
 }
 
-// The plan of the order A, c: a pass for each round, the first after P⁻¹, which is P, and then what is left.
-fn plan_for(g: Geometry, rows: [u32; ROWS], c: u32) -> Plan
+// The plan of the passes made of A and c: one for each round, the first after P⁻¹, which is P, and then what is left.
+fn plan_made(g: Geometry, rows: [u32; ROWS], c: u32) -> Plan
     requires { ⌜ (inLimits g ≡ true) × (singular (g .n) (take (g .n) rows) ≡ false) ⌝ }
-    ensures { λ r. ⌜ r ≡ planFor g (take (g .n) rows) c ⌝ }
+    ensures { λ r. ⌜ r ≡ planOf (record { geometry = g; passes = passesMade g (take (g .n) rows) c }) ⌝ }
 {
     let n = g.n as usize;
     let b = g.b as usize;
     let m = g.m as usize;
     let o = operate(&rows, n, m);
-    let mut plan = empty_plan();
-    plan.geometry = g;
+    let mut plan = no_passes(g);
     let mut cols = o.cols;
     let mut q = o.p;
     let mut p: usize = 0;
@@ -59,6 +62,28 @@ fn plan_for(g: Geometry, rows: [u32; ROWS], c: u32) -> Plan
         p += 1;
     }
     with_pass(plan, p, rows_after(&cols, &q, n), c)
+}
+
+// Whether A is the identity and c is 0: then no record need move.
+fn is_still(rows: &[u32; ROWS], n: usize, c: u32) -> bool
+    requires { ⌜ n ≤ ROWS ⌝ }
+    ensures { λ r. ⌜ r ≡ isIdentity n (take n (now (rows .entry))) && eqb c 0 ⌝ }
+{
+    if c != 0 {
+        return false;
+    }
+    is_identity(rows, n)
+}
+
+// The plan of the order A, c: no passes where no record need move.
+fn plan_for(g: Geometry, rows: [u32; ROWS], c: u32) -> Plan
+    requires { ⌜ (inLimits g ≡ true) × (singular (g .n) (take (g .n) rows) ≡ false) ⌝ }
+    ensures { λ r. ⌜ r ≡ planFor g (take (g .n) rows) c ⌝ }
+{
+    if is_still(&rows, g.n as usize, c) {
+        return no_passes(g);
+    }
+    plan_made(g, rows, c)
 }
 
 // The plan for an order that is taken, and a number that says why where one isn't.

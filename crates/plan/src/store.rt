@@ -1,9 +1,10 @@
 // A plan as it is stored.
 ghost use mathlib.Core.Path.{_≡_};
+ghost use mathlib.Core.List.{[]};
 ghost use Prim.Native.Nat.{_<_, _*_};
 ghost use lib.ListN.{take, drop};
 ghost use Rattle.bank.specs.Limits.{ROWS, PASSES};
-ghost use Rattle.planning.specs.Stored.{emptyPlan};
+ghost use Rattle.planning.specs.Stored.{emptyPlan, planOf};
 ghost use Rattle.plan.specs.Store.{withPass};
 use bank::Geometry;
 use bank::PASSES;
@@ -29,6 +30,15 @@ pub fn empty_plan() -> Plan
         rows: rows,
         complements: complements,
     }
+}
+
+// A plan with no passes.
+pub(crate) fn no_passes(g: Geometry) -> Plan
+    ensures { λ r. ⌜ r ≡ planOf (record { geometry = g; passes = [] }) ⌝ }
+{
+    let mut plan = empty_plan();
+    plan.geometry = g;
+    plan
 }
 
 // The rows of pass p, in the room that they have.

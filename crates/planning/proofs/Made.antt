@@ -15,9 +15,10 @@ use Rattle.algebra.proofs.Lists.{all-at, at-all}
 use Rattle.planning.proofs.Bound.{passes-bound}
 use Rattle.planning.proofs.Run.{MatrixRuns, plan-half, plan-length, plan-moves, plan-runs}
 use Rattle.planning.proofs.Running.{runs-back, runs→sound, sound-allowed, sound-dry}
+use Rattle.planning.proofs.Still.{by-passes, still-target}
 use Rattle.planning.proofs.Stored.{route-length}
 use Rattle.planning.specs.Columns.{phi}
-use Rattle.planning.specs.Making.{dividedUp, passMatrices, passesFor}
+use Rattle.planning.specs.Making.{dividedUp, passMatrices, passesFor, passesMade}
 use Rattle.planning.specs.Pass.{complemented, passIn, performed}
 use Rattle.planning.specs.Running.{sound}
 use Rattle.planning.specs.Stored.{planFor, routeOf}
@@ -57,31 +58,26 @@ module _ (g : Geometry) (rows : List ℕ) (c : ℕ) (hg : inLimits g ≡ true) (
   abbrev matrices : List (List ℕ)
   matrices = passMatrices (g .n) (g .b) (g .m) rows
 
-  -- rounds number rank φ divided by m - b, rounded up; passes are one more
-  pub made-length : length (passesFor g rows c) ≡ dividedUp (rank (phi (g .m) (columns (g .n) rows)) (g .m)) (g .m - g .b) + 1
-  unfolding passesFor
+  -- rounds number rank φ divided by m - b, rounded up; the passes made are one more
+  pub made-length : length (passesMade g rows c) ≡ dividedUp (rank (phi (g .m) (columns (g .n) rows)) (g .m)) (g .m - g .b) + 1
   made-length = complemented-length matrices c ∙ plan-length (g .n) (g .b) (g .m) (a .block-below) hm rows hr hs ∙ omega arith
 
-  made-some : 1 ≤ length (passesFor g rows c)
-  made-some = omega (arith, made-length)
-
   -- they fit into a plan
-  pub made-few : length (passesFor g rows c) ≤ PASSES
-  unfolding passesFor
+  pub made-few : length (passesMade g rows c) ≤ PASSES
   made-few = omega (arith, complemented-length matrices c, plan-half (g .n) (g .b) (g .m) (a .block-below) hm rows hr hs, a .n-high)
 
-  -- the passes take every x to Ax xor c
+  -- the order's passes take every x to Ax xor c
   pub made-performs : (x : ℕ) → x < 2 ^ g .n → performed (passesFor g rows c) x ≡ target rows c x
-  unfolding passesFor
-  made-performs = plan-moves (g .n) (g .b) (g .m) (a .block-below) hm rows hr hs c
+  unfolding performed
+  made-performs =
+      by-passes g rows c hr (λ ps. (x : ℕ) → x < 2 ^ g .n → performed ps x ≡ target rows c x) (λ s x h. sym (still-target (g .n) rows c s x h))
+      (λ f. plan-moves (g .n) (g .b) (g .m) (a .block-below) hm rows hr hs c)
 
   module _ (hc : c < 2 ^ g .n) where
-    -- the route can run
-    made-runs : Runs (record { geometry = g; passes = passesFor g rows c })
-    unfolding passesFor
-    made-runs = record {
+    -- the passes made can run
+    rounds-run : Runs (record { geometry = g; passes = passesMade g rows c })
+    rounds-run = record {
       inside = hg;
-      some-pass = made-some;
       few-passes = made-few;
       each-runs = λ p h.
           let runs = plan-runs (g .n) (g .b) (g .m) (a .block-below) hm rows hr hs in
@@ -95,6 +91,12 @@ module _ (g : Geometry) (rows : List ℕ) (c : ℕ) (hg : inLimits g ≡ true) (
             dry = k .dry;
           };
     }
+
+    -- the order's route can run
+    made-runs : Runs (record { geometry = g; passes = passesFor g rows c })
+    made-runs =
+        by-passes g rows c hr (λ ps. Runs (record { geometry = g; passes = ps }))
+        (λ s. record { inside = hg; few-passes = omega arith; each-runs = λ p h. absurd (omega arith) }) (λ f. rounds-run)
 
     -- its plan holds it ..
     pub made-route : routeOf (planFor g rows c) ≡ record { geometry = g; passes = passesFor g rows c }

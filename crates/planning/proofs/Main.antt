@@ -22,12 +22,13 @@ use Rattle.planning.proofs.Parts.{delta-comb, phi-at}
 use Rattle.planning.proofs.Round.{e-small, eraser-one, eraser-right, next-nonzero, next-ready, after-swaps-ready}
 use Rattle.planning.proofs.Rounds.{rounds-end}
 use Rattle.planning.proofs.Run.{moved-nonzero, moved-ready, plan-none}
-use Rattle.planning.proofs.Running.{runs-back, runs→sound, sound→runs}
+use Rattle.planning.proofs.Running.{empty-stays, runs-back, runs→sound, sound→runs}
+use Rattle.planning.proofs.Still.{other-passes, still-passes}
 use Rattle.planning.proofs.Step1.{delta-regular, pairing-total}
 use Rattle.planning.proofs.Step2.{moved-zero, summands-one, summands-right, operations-inverse}
 use Rattle.planning.specs.Columns.{phi, zeroColumn}
 use Rattle.planning.specs.Facts.{Erasing, Facts, MarkedSum, OnlyOne, PlanFacts, RoundFacts, StepFacts, Taken, afterStep2, nonzero}
-use Rattle.planning.specs.Making.{eraser, passesFor, summands, afterSwaps}
+use Rattle.planning.specs.Making.{eraser, summands, afterSwaps}
 use Rattle.planning.specs.Pass.{complemented}
 use Rattle.planning.specs.Inner.{RoundReady}
 
@@ -110,10 +111,12 @@ plan-right g rows c k =
     let hm : g .m ≤ g .n = omega (arith, a .memory-below) in
     record {
       steps = steps-right (g .n) (g .b) (g .m) (a .block-below) hm rows (k .rows-all) (k .regular);
-      no-rounds = λ e. unfold passesFor complemented in
+      no-pass = still-passes g rows c (k .rows-all);
+      no-rounds = λ f e. other-passes g rows c (k .rows-all) f ∙ unfold complemented in
           ap (λ (l : List (List ℕ)). complemented l c) (plan-none (g .n) (g .b) (g .m) (a .block-below) hm rows (k .rows-all) (k .regular) (k .rows-below) e);
       holds = made-route g rows c (k .inside) (k .rows-all) (k .regular) (k .complement-below);
     }
 
 pub facts-right : Facts
-facts-right = record { plan = plan-right; round = round-right; sound-runs = sound→runs; runs-sound = runs→sound; comes-back = runs-back }
+facts-right =
+    record { plan = plan-right; round = round-right; sound-runs = sound→runs; runs-sound = runs→sound; comes-back = runs-back; empty-stays = empty-stays }

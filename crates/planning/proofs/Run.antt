@@ -60,7 +60,7 @@ first-length [] q = refl
 first-length (p ∷ ps) q = refl
 
 -- the rows of the matrix whose columns are those of A
-rows-back : (n : ℕ) (rows q : List ℕ) → length rows ≡ n → ((i : ℕ) → i < n → getD rows i 0 < 2 ^ n) → length q ≡ n
+pub rows-back : (n : ℕ) (rows q : List ℕ) → length rows ≡ n → ((i : ℕ) → i < n → getD rows i 0 < 2 ^ n) → length q ≡ n
     → ((j : ℕ) → j < n → comb q (2 ^ j) ≡ applied rows (2 ^ j)) → columns n q ≡ rows
 rows-back n rows q hr hs hq e =
     ext-getD 0 (columns n q) rows (columns-length n q ∙ sym hr)

@@ -19,7 +19,7 @@ use Rattle.planning.proofs.Stored.{route-at, route-back, route-length, 
 use Rattle.planning.specs.Pass.{Pass, Route, passAt, passIn, total}
 use Rattle.planning.specs.Running.{canRun, countInLimits, meantZero, singularPass, sound}
 use Rattle.planning.specs.Running.{spareComplement, spareRow, spillingPass, strayComplement, strayRow}
-use Rattle.planning.specs.Stored.{planOf, routeOf, storedComplements, storedPass, storedRows}
+use Rattle.planning.specs.Stored.{emptyPlan, planOf, routeOf, storedComplements, storedPass, storedRows}
 use Rattle.planning.specs.declared.Plan.{Plan}
 use Rattle.planning.specs.declared.state.State.{State}
 use Rattle.planning.specs.Inner.{Runs}
@@ -74,13 +74,9 @@ module _ (plan : Plan) (e : sound plan ≡ true) where
   pub sound-allowed : Allowed (plan .geometry)
   sound-allowed = limits→allowed (plan .geometry) (checked .limits)
 
-  sound-some : 1 ≤ plan .count
-  unfolding countInLimits
-  sound-some = leb-true 1 (plan .count) (and-l (leb 1 (plan .count)) _ (checked .count))
-
   pub sound-few : plan .count ≤ PASSES
   unfolding countInLimits
-  sound-few = leb-true (plan .count) PASSES (and-r (leb 1 (plan .count)) (leb (plan .count) PASSES) (checked .count))
+  sound-few = leb-true (plan .count) PASSES (checked .count)
 
   sound-row : (p i : ℕ) → p < plan .count → i < plan .geometry .n → getD (plan .rows) (p * ROWS + i) 0 < records (plan .geometry)
   unfolding strayRow
@@ -108,7 +104,6 @@ pub sound→runs : (plan : Plan) → length (plan .rows) ≡ PASSES * ROWS → s
 unfolding routeOf storedPass
 sound→runs plan long e = record {
   inside = sound→checked plan e .limits;
-  some-pass = omega (arith, sound-some plan e, route-length plan);
   few-passes = omega (arith, sound-few plan e, route-length plan);
   each-runs = λ p h.
       let n = plan .geometry .n in
@@ -131,6 +126,11 @@ module _ (plan : Plan) (state : State) where
   pub sound→can-run : sound plan ≡ true → state .next .0 ≤ total (routeOf plan) → canRun plan state ≡ true
   unfolding canRun
   sound→can-run e h = and-both (sound plan) (leb (state .next .0) (total (routeOf plan))) e (le-leb (state .next .0) (total (routeOf plan)) h)
+
+-- the empty plan can't run
+pub empty-stays : (state : State) → canRun emptyPlan state ≡ false
+unfolding canRun sound inLimits
+empty-stays state = refl
 
 -- ---- a route that can run, stored, is a sound plan
 or-cases : (a b : Bool) → a || b ≡ true → (a ≡ true) ⊎ (b ≡ true)
@@ -163,8 +163,8 @@ module _ (route : Route) (k : Runs route) where
       ⊎-elim (λ (l : length ps ≤ p). zero-past p i l)
       (λ (l : p < length ps). List·getD-eq-default (passIn ps p .rows) 0 (omega (arith, k .each-runs p l .rows-all))) (le-or-lt (length ps) p)
 
-  counted : leb 1 (length ps) && leb (length ps) PASSES ≡ true
-  counted = and-both (leb 1 (length ps)) (leb (length ps) PASSES) (le-leb 1 (length ps) (k .some-pass)) (le-leb (length ps) PASSES (k .few-passes))
+  counted : leb (length ps) PASSES ≡ true
+  counted = le-leb (length ps) PASSES (k .few-passes)
 
   no-stray-row : (p i : ℕ) → p < length ps → i < g .n → leb (records g) (getD (storedRows PASSES ROWS ps) (p * ROWS + i) 0) ≡ false
   no-stray-row p i hp hi =

@@ -11,14 +11,15 @@ use Rattle.bank.specs.declared.Geometry.{Geometry}
 use Rattle.bank.specs.Geometry.{inLimits, records}
 use Rattle.algebra.specs.Search.{which}
 use Rattle.algebra.specs.Vector.{comb}
-use Rattle.algebra.specs.Matrix.{after, columns, inverse, marked, rank, singular}
+use Rattle.algebra.specs.Matrix.{after, columns, identity, inverse, marked, rank, singular}
 use Rattle.planning.specs.Columns.{delta, onlyMarked, phi, zeroColumn}
 use Rattle.planning.specs.Inner.{RoundReady, Runs}
 use Rattle.planning.specs.Making.{afterSwaps, busy, chosen, eraser, operations, passesFor, roundLeft, rounds, step1, summands, unmarked}
 use Rattle.planning.specs.Pass.{Route}
-use Rattle.planning.specs.Running.{sound}
-use Rattle.planning.specs.Stored.{planFor, planOf, routeOf}
+use Rattle.planning.specs.Running.{canRun, sound}
+use Rattle.planning.specs.Stored.{emptyPlan, planFor, planOf, routeOf}
 use Rattle.planning.specs.declared.Plan.{Plan}
+use Rattle.planning.specs.declared.state.State.{State}
 
 -- x is the only number below k of which Q holds
 pub record OnlyOne (k : ℕ) (Q : ℕ → Type 0) (x : ℕ) : Type 0 where
@@ -96,11 +97,18 @@ pub record Taken (g : Geometry) (rows : List ℕ) (c : ℕ) : Type 0 where
   pub complement-below : c < records g
   pub regular : singular (g .n) rows ≡ false
 
+-- the order A, c leaves every record where it is: A is the identity, and c is 0
+abbrev pub Still : ℕ → List ℕ → ℕ → Type 0
+Still n rows c = (rows ≡ identity n) × (c ≡ 0)
+
 pub record PlanFacts (g : Geometry) (rows : List ℕ) (c : ℕ) : Type 0 where
   -- steps 1 and 2, and the rounds
   pub steps : StepFacts (g .n) (g .b) (g .m) (columns (g .n) rows)
-  -- with no rounds the only pass is A, with c
-  pub no-rounds : rank (phi (g .m) (columns (g .n) rows)) (g .m) ≡ 0 → passesFor g rows c ≡ record { rows = rows; complement = c } ∷ []
+  -- where no record need move there is no pass
+  pub no-pass : Still (g .n) rows c → passesFor g rows c ≡ []
+  -- with no rounds the only pass of any other order is A, with c
+  pub no-rounds : (Still (g .n) rows c → ⊥) → rank (phi (g .m) (columns (g .n) rows)) (g .m) ≡ 0
+      → passesFor g rows c ≡ record { rows = rows; complement = c } ∷ []
   -- the plan has room for the passes, and holds them as they were made
   pub holds : routeOf (planFor g rows c) ≡ record { geometry = g; passes = passesFor g rows c }
 
@@ -115,3 +123,5 @@ pub record Facts : Type 0 where
   pub runs-sound : (route : Route) → Runs route → sound (planOf route) ≡ true
   -- a route that is stored comes back
   pub comes-back : (route : Route) → Runs route → routeOf (planOf route) ≡ route
+  -- the empty plan has no geometry, and can't run
+  pub empty-stays : (state : State) → canRun emptyPlan state ≡ false

@@ -30,6 +30,5 @@ pub record PassRuns (g : Geometry) (pass : Pass) : Type 0 where
 -- a route that can run
 pub record Runs (route : Route) : Type 0 where
   pub inside : inLimits (route .geometry) ≡ true
-  pub some-pass : 1 ≤ length (route .passes)
   pub few-passes : length (route .passes) ≤ PASSES
   pub each-runs : (p : ℕ) → p < length (route .passes) → PassRuns (route .geometry) (passAt route p)

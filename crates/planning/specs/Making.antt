@@ -8,7 +8,7 @@ use lib.ListN.{getD}
 use Rattle.bank.specs.declared.Geometry.{Geometry}
 use Rattle.algebra.specs.Search.{firstOf, anyBelow, which}
 use Rattle.algebra.specs.Vector.{comb}
-use Rattle.algebra.specs.Matrix.{after, columns, inverse, marked}
+use Rattle.algebra.specs.Matrix.{after, columns, inverse, isIdentity, marked}
 use Rattle.planning.specs.Pass.{Pass, complemented}
 use Rattle.planning.specs.Columns.{adding, placing, phi, delta, zeroColumn, onlyMarked}
 
@@ -117,9 +117,13 @@ passMatrices n b m rows =
     let p = operations n m a in
     map (columns n) (firstAfter (rounds m n b m (after a p)) (columns n (inverse n (columns n p))))
 
--- the passes of the order A, c
+-- the passes that are made of A and c so
+abbrev pub passesMade : Geometry → List ℕ → ℕ → List Pass
+passesMade g rows c = complemented (passMatrices (g .n) (g .b) (g .m) rows) c
+
+-- the passes of the order A, c: none where A is the identity and c is 0, since no record need move
 unfoldable pub passesFor : Geometry → List ℕ → ℕ → List Pass
-passesFor g rows c = complemented (passMatrices (g .n) (g .b) (g .m) rows) c
+passesFor g rows c = cond (isIdentity (g .n) rows && eqb c 0) [] (passesMade g rows c)
 
 -- a divided by k, rounded up
 unfoldable pub dividedUp : ℕ → ℕ → ℕ

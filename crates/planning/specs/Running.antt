@@ -12,9 +12,9 @@ use Rattle.planning.specs.Stored.{routeOf}
 use Rattle.planning.specs.declared.Plan.{Plan}
 use Rattle.planning.specs.declared.state.State.{State}
 
--- the pass count is 1 to as many as there is room for
+-- the pass count is 0 to as many as there is room for
 unfoldable pub countInLimits : Plan → Bool
-countInLimits plan = leb 1 (plan .count) && leb (plan .count) PASSES
+countInLimits plan = leb (plan .count) PASSES
 
 -- a used row has a bit at n or above
 unfoldable pub strayRow : Plan → Bool

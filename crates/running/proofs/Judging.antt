@@ -78,7 +78,7 @@ module _ (plan : Plan) where
 
 -- ---- the geometry and the number of passes
 module _ (plan : Plan) where
-  pub size-asked : inLimits (plan .geometry) ≡ true → inLimits (plan .geometry) && countInLimits plan ≡ leb 1 (plan .count) && leb (plan .count) PASSES
+  pub size-asked : inLimits (plan .geometry) ≡ true → inLimits (plan .geometry) && countInLimits plan ≡ leb (plan .count) PASSES
   unfolding countInLimits
   size-asked e = rw e
 
@@ -88,9 +88,7 @@ module _ (plan : Plan) (inside : inLimits (plan .geometry) && countInLimits plan
 
   pub size-few : plan .count ≤ PASSES
   unfolding countInLimits
-  size-few =
-      leb-true (plan .count) PASSES
-      (and-r (leb 1 (plan .count)) (leb (plan .count) PASSES) (and-r (inLimits (plan .geometry)) (leb 1 (plan .count) && leb (plan .count) PASSES) inside))
+  size-few = leb-true (plan .count) PASSES (and-r (inLimits (plan .geometry)) (leb (plan .count) PASSES) inside)
 
 -- ---- the judgement
 none-of : (a b c d s t : Bool) → not a && not b && not c && not d && not s && not t ≡ not (a || b || c || d) && not (s || t)

@@ -27,9 +27,6 @@ fn size_in_limits(plan: Plan) -> bool
     if !bank::in_limits(plan.geometry) {
         return false;
     }
-    if plan.count < 1 {
-        return false;
-    }
     plan.count <= PASSES as u32
 }
 

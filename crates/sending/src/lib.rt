@@ -82,5 +82,5 @@ pub fn send_all(
         say_step(progress, k / each, each, k + 1, total);
         k += 1;
     }
-    say_end(progress);
+    say_end(progress, total);
 }

@@ -61,8 +61,11 @@ pub(crate) fn say_step(progress: Progress, pass: u64, each: u64, done: u64, tota
     }
 }
 
-// What is said once all are done: the line that was written over ends.
-pub(crate) fn say_end(progress: Progress) {
+// What is said once all are done: the line that was written over ends. Where there is no step there is no line.
+pub(crate) fn say_end(progress: Progress, total: u64) {
+    if total == 0 {
+        return;
+    }
     if let Progress::Rewritten = progress {
         words(b"\n");
     }

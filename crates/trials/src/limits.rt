@@ -127,6 +127,7 @@ fn sizes(count: u32) -> u64 {
 }
 
 pub(crate) fn counts() {
+    say::one(b"no passes, so many n at which they can run", sizes(0));
     say::one(b"14 passes, so many n at which they can run", sizes(14));
     say::one(b"15 passes, so many n at which they can run", sizes(15));
     say::one(b"16 passes, so many n at which they can run", sizes(16));

@@ -3,6 +3,7 @@ mod say; // say.rt: a line of output
 mod orders; // orders.rt: geometry, form and addresses
 mod plans; // plans.rt: plans made, and plans judged
 mod steps; // steps.rt: steps and runs on lent bytes
+mod still; // still.rt: an order that leaves every record where it is
 mod limits; // limits.rt: what is tried at the limits
 
 fn main() {
@@ -18,6 +19,9 @@ fn main() {
     steps::in_turn();
     steps::lengths();
     steps::wholes();
+    still::planned();
+    still::asked();
+    still::runs();
     limits::words();
     limits::made();
     limits::counts();

@@ -52,7 +52,7 @@ pub(crate) fn small() -> Order {
 }
 
 // The identity of as many rows as there is room for.
-fn largest(n: u32, r: u32) -> Order {
+pub(crate) fn largest(n: u32, r: u32) -> Order {
     let rows = matrix::rows::identity(ROWS);
     Order {
         geometry: geometry(n, 6, 2, 14, r),

@@ -86,7 +86,7 @@ pub(crate) fn judged() {
     runs(b"R = 257", p, 0);
     p = reversal();
     p.count = 0;
-    runs(b"no passes", p, 0);
+    runs(b"three passes, none counted", p, 0);
     p.count = 18;
     runs(b"18 passes", p, 0);
     p = reversal();

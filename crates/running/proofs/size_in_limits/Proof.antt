@@ -1,7 +1,7 @@
 -- `running::size_in_limits` meets its contract: the tests, one by one. Assumes nothing.
 use mathlib.Core.Path.{sym, _∙_}
 use borrow.Author.Needs.{needs}
-use borrow.Author.Tests.{le-leb, lt-leb, not-true, not-false}
+use borrow.Author.Tests.{not-true, not-false}
 use Rattle.running.proofs.Judging.{size-asked}
 use Rattle.running.proofs.size_in_limits.Statement.{statement}
 use Rattle.running.proofs.size_in_limits.Tie as tie
@@ -11,14 +11,8 @@ returns c = sym (rw (sym (c .before .in-limits .ensures) ∙ not-true _ (c .if1 
 
 returns-2 : tie.Need-returns-2
 returns-2 c =
-    let t = c .before .before in
-    sym (size-asked (t .before .before .args .plan) (sym (t .before .in-limits .ensures) ∙ not-false _ (t .if1 .left)) ∙ rw (lt-leb _ _ (c .if2 .taken)))
-
-returns-3 : tie.Need-returns-3
-returns-3 c =
-    let t = c .before .before .before in
-    sym (size-asked (t .before .before .args .plan) (sym (t .before .in-limits .ensures) ∙ not-false _ (t .if1 .left))
-    ∙ rw (le-leb _ _ (c .before .if2 .left)))
+    let t = c .before in
+    sym (size-asked (t .before .before .args .plan) (sym (t .before .in-limits .ensures) ∙ not-false _ (t .if1 .left)))
 
 pub size-in-limits-spec : {M : Type 1} → statement M
-size-in-limits-spec = tie.close (tie.spec (λ c κs. search needs) returns returns-2 (λ c. search needs) returns-3)
+size-in-limits-spec = tie.close (tie.spec (λ c κs. search needs) returns (λ c. search needs) returns-2)
