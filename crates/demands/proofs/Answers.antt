@@ -15,7 +15,7 @@ use Rattle.order.proofs.Asked.{source-given, source-refused, target-refused}
 use Rattle.order.proofs.Main.{one-answer}
 use Rattle.planning.specs.declared.state.State.{State}
 use Rattle.planning.specs.Stored.{emptyPlan}
-use Rattle.planning.proofs.Running.{empty-stays}
+use Rattle.planning.proofs.Running.{empty-stuck}
 use Rattle.plan.specs.declared.make.Planned.{Planned}
 use Rattle.plan.specs.Answer.{plannedFor}
 use Rattle.plan.proofs.Answered.{planned-refused}
@@ -74,8 +74,8 @@ ours-answers =
       source-one = λ order y a b p q. one-answer a b (p ∙ sym q);
       plan-number = λ order. refl;
       plan-refused = λ order f. ap (λ (a : Planned). a .plan) (planned-refused order f);
-      empty-step = λ m k r w p. ours-numbers .of-step emptyPlan m k r w p .gives-7 .1 (empty-stays (m .state));
-      empty-run = λ m q r w p. ours-numbers .of-run emptyPlan m q r w p .gives-7 .1 (empty-stays (m .state));
+      empty-step = λ m k r w p. ours-numbers .of-step emptyPlan m k r w p .gives-7 .1 (empty-stuck (m .state));
+      empty-run = λ m q r w p. ours-numbers .of-run emptyPlan m q r w p .gives-7 .1 (empty-stuck (m .state));
       step-done = λ plan m k r w p e.
           let done = step-done plan m k (sym (step-number plan m k r w p) ∙ e) in
           ap (λ (s : State). s .next .0) (step-state plan m k r w p ∙ ap (λ (n : Moment). n .state) done);

@@ -1,5 +1,5 @@
 -- Our mover has demand 3, by its own plans and by any plan that performs an order. Assumes nothing.
-use mathlib.Core.Path.{_≡_, refl, ap, ap₂, _∙_, subst}
+use mathlib.Core.Path.{_≡_, refl, sym, ap, ap₂, _∙_, subst}
 use mathlib.Core.Bool.{true, cond}
 use mathlib.Core.List.{List}
 use mathlib.Core.Logic.{_↔_, _⊎_, ⊎-elim}
@@ -14,18 +14,19 @@ use Rattle.bank.specs.Limits.{PASSES, ROWS}
 use Rattle.bank.specs.declared.Geometry.{Geometry}
 use Rattle.bank.specs.Geometry.{records}
 use Rattle.order.specs.declared.Order.{Order}
+use Rattle.order.specs.declared.address.Target.{Target}
 use Rattle.order.specs.Order.{matrixOf, judgement}
 use Rattle.order.specs.Address.{sentTo}
 use Rattle.order.proofs.Accepted.{Accepted, judgement→accepted, matrix-below, matrix-length}
 use Rattle.planning.specs.declared.Plan.{Plan}
 use Rattle.planning.specs.Columns.{phi}
 use Rattle.planning.specs.Making.{dividedUp}
-use Rattle.planning.specs.Pass.{performed, total}
+use Rattle.planning.specs.Pass.{Pass, performed, total}
 use Rattle.planning.specs.Stored.{planFor, planOf, routeOf, storedRows}
 use Rattle.planning.proofs.Made.{runs-bound}
 use Rattle.planning.proofs.Running.{sound-allowed, sound→can-run, sound→runs}
 use Rattle.planning.proofs.Still.{still-or, still-target, target-still}
-use Rattle.planning.proofs.Stored.{route-length}
+use Rattle.planning.proofs.Stored.{route-length, route-none}
 use Rattle.plan.specs.declared.make.Planned.{Planned}
 use Rattle.plan.specs.Answer.{plannedFor}
 use Rattle.running.specs.Total.{resultArea}
@@ -50,6 +51,7 @@ use Rattle.demands.proofs.OneStep.{one-step}
 use Rattle.demands.proofs.Repeats.{ours-repeats}
 use Rattle.demands.proofs.Promised.{run-moment, step-moment, step-number}
 use Rattle.demands.proofs.Answers.{ours-answers}
+use Rattle.demands.proofs.Sends.{ours-sends}
 use Rattle.demands.proofs.Chains.{stray-run, stray-step}
 
 -- ---- a chain of our calls keeps what each call keeps, and its state counts the new steps
@@ -177,17 +179,29 @@ module _ (order : Order) (room : length (order .rows) ≡ ROWS) (taken : judgeme
   own-few : plannedFor order .plan .count ≤ roundsFor order + 1
   own-few = ⊎-elim (λ (s : StillOrder order). omega (arith, own-none s)) (λ (f : StillOrder order → ⊥). le-of-eq (own-passes f)) still-or-not
 
-  -- no pass exactly where A is the identity and c is 0
-  own-exact : (plannedFor order .plan .count ≡ 0) ↔ StillOrder order
-  own-exact =
-      (λ e. ⊎-elim (λ (s : StillOrder order). s) (λ (f : StillOrder order → ⊥). absurd (omega (arith, own-passes f, e))) still-or-not, own-none)
+  sent : (x : ℕ) → x < records (order .geometry) → ours .sends order x .address .0 ≡ sentTo order x
+  sent x h = ap (λ (t : Target). t .address .0) (ours-sends order room .sends taken x h)
+
+  -- an order that sends every address to itself is such a one
+  stays-still : ((x : ℕ) → x < records (order .geometry) → sentTo order x ≡ x) → StillOrder order
+  stays-still =
+      target-still (order .geometry .n) (matrixOf order) (order .complement) long (matrix-below order (formed .inside) room (formed .form))
 
   -- and that is where every address is sent to itself
-  own-stays : StillOrder order ↔ ((x : ℕ) → x < records (order .geometry) → sentTo order x ≡ x)
-  own-stays =
-      let n = order .geometry .n in
-      let A = matrixOf order in
-      (still-target n A (order .complement), target-still n A (order .complement) long (matrix-below order (formed .inside) room (formed .form)))
+  own-stays : StillOrder order ↔ ((x : ℕ) → x < records (order .geometry) → ours .sends order x .address .0 ≡ x)
+  own-stays = (
+    λ s x h. sent x h ∙ still-target (order .geometry .n) (matrixOf order) (order .complement) s x h,
+    λ f. stays-still (λ x h. sym (sent x h) ∙ f x h),
+  )
+
+  -- a plan of no passes leaves every address where it is
+  foreign-stays : (plan : Plan) → Performs order plan → plan .count ≡ 0 → StillOrder order
+  unfolding performed
+  foreign-stays plan does none = stays-still (λ x h. sym (does .takes x h) ∙ ap (λ (ps : List Pass). performed ps x) (route-none plan none))
+
+  -- so ours has none exactly there
+  own-exact : (plannedFor order .plan .count ≡ 0) ↔ StillOrder order
+  own-exact = (foreign-stays (plannedFor order .plan) own-performs, own-none)
 
 pub ours-delivers : Delivers ours
 ours-delivers =
@@ -211,6 +225,7 @@ ours-counts =
       none = own-exact;
       none-moves = own-stays;
       exact = own-passes;
+      none-others = foreign-stays;
       at-least = least;
       near-best = λ order room taken plan does. omega (arith, own-few order room taken, least order plan does);
     }

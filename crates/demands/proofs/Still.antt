@@ -3,27 +3,23 @@ use mathlib.Core.Path.{_≡_, refl, sym, ap, ap₂, _∙_, subst}
 use mathlib.Core.Bool.{Bool, true, false}
 use mathlib.Core.List.{List, [], _++_}
 use mathlib.Core.Logic.{_↔_}
-use Prim.Native.Nat.{ℕ, _+_, _*_, _<_, _≤_}
+use Prim.Native.Nat.{ℕ, _+_, _*_, _≤_}
 use native.Mathlib.Nat.{mul-zero}
 use native.Mathlib.Omega.{arith}
 use borrow.Author.Tests.{le-leb, lt-leb, leb-false, leb-true}
 use lib.Dec.{leb}
 use lib.ListN.{length, drop}
-use Rattle.algebra.specs.Search.{listed}
-use Rattle.bank.specs.Limits.{ROWS}
-use Rattle.order.specs.declared.Order.{Order}
-use Rattle.order.specs.Order.{judgement}
 use Rattle.planning.specs.declared.Plan.{Plan}
 use Rattle.planning.specs.declared.state.State.{State}
 use Rattle.planning.specs.Pass.{Pass, passSteps, total}
 use Rattle.planning.specs.Running.{canRun, sound}
 use Rattle.planning.specs.Stored.{routeOf}
-use Rattle.planning.proofs.Stored.{route-length}
+use Rattle.planning.proofs.Stored.{route-length, route-none}
 use Rattle.plan.specs.Answer.{plannedFor}
-use Rattle.plan.proofs.Main.{Makes, made-accepted}
+use Rattle.plan.proofs.Main.{made-accepted}
 use Rattle.running.specs.Total.{resultArea}
 use Rattle.moving.specs.Step.{Buffers}
-use Rattle.moving.specs.Call.{Moment, ran, refuses, runCount}
+use Rattle.moving.specs.Call.{Moment, refuses, runCount}
 use Rattle.moving.proofs.Calls.{by-run, refused-count, run-count, run-none, run-same}
 use Rattle.mover.specs.declared.step.Stepped.{Stepped}
 use Rattle.mover.specs.declared.run.Ran.{Ran}
@@ -33,11 +29,10 @@ use Rattle.text.specs.Lines.{decimal, digitsIn, line}
 use Rattle.listing.specs.Listing.{headLines, listing, passesLines, passesWord, resultWord, stepsWord}
 use Rattle.listing.proofs.Passes.{has-room, listing-parts}
 use Rattle.demands.specs.Ours.{ours}
-use Rattle.demands.specs.Numbers.{RunNumbers, StepNumbers, fitting}
-use Rattle.demands.specs.Still.{AtStart, CostsNothing, NoSteps, PastStart, StillNumber, StillOrder, zeroLines}
+use Rattle.demands.specs.Numbers.{fitting}
+use Rattle.demands.specs.Still.{AtStart, CostsNothing, PastStart, StillNumber, zeroLines}
 use Rattle.demands.proofs.Numbers.{ours-numbers}
 use Rattle.demands.proofs.Promised.{run-moment, step-refused}
-use Rattle.demands.specs.Chain.{momentOf}
 
 -- the first lines of a listing, by what they tell
 abbrev threeLines : ℕ → ℕ → ℕ → List ℕ
@@ -112,11 +107,6 @@ module _ (plan : Plan) (can : sound plan ≡ true) (none : plan .count ≡ 0) wh
           ap (λ (n : Moment). n .buffers) left,
         )
 
-  -- no pass is listed
-  none-listed : routeOf plan .passes ≡ []
-  unfolding routeOf listed
-  none-listed = rw none refl
-
   area-0 : resultArea plan ≡ 0
   unfolding resultArea
   area-0 = omega (arith, none)
@@ -126,7 +116,7 @@ module _ (plan : Plan) (can : sound plan ≡ true) (none : plan .count ≡ 0) wh
   unfolding headLines passesLines decimal digitsIn
   zero-listed =
       listing-parts plan can
-      ∙ ap₂ (λ (a : ℕ) (ps : List Pass). threeLines a (total (routeOf plan)) (resultArea plan) ++ passesLines (plan .geometry .n) 0 ps) none none-listed
+      ∙ ap₂ (λ (a : ℕ) (ps : List Pass). threeLines a (total (routeOf plan)) (resultArea plan) ++ passesLines (plan .geometry .n) 0 ps) none (route-none plan none)
       ∙ ap₂ (λ (b c : ℕ). threeLines 0 b c ++ []) no-total area-0
 
 -- ---- the plan that is made

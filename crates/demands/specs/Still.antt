@@ -9,7 +9,7 @@ use Rattle.bank.specs.Limits.{ROWS}
 use Rattle.order.specs.declared.Order.{Order}
 use Rattle.order.specs.Order.{matrixOf}
 use Rattle.planning.specs.declared.Plan.{Plan}
-use Rattle.planning.specs.Facts.{Still}
+use Rattle.planning.specs.Making.{Still}
 use Rattle.moving.specs.Step.{Buffers}
 use Rattle.moving.specs.Call.{Moment}
 use Rattle.mover.specs.declared.step.Stepped.{Stepped}

@@ -10,8 +10,7 @@ use Rattle.order.specs.Order.{judgement, matrixOf}
 use Rattle.order.specs.declared.Order.{Order}
 use Rattle.order.proofs.Accepted.{complement-below, judgement→accepted, matrix-length}
 use Rattle.planning.specs.Columns.{phi}
-use Rattle.planning.specs.Facts.{Still}
-use Rattle.planning.specs.Making.{dividedUp}
+use Rattle.planning.specs.Making.{Still, dividedUp}
 use Rattle.planning.specs.Pass.{performed}
 use Rattle.planning.specs.Running.{sound}
 use Rattle.planning.specs.Stored.{planFor, planOf, routeOf}

@@ -22,7 +22,7 @@ use Rattle.planning.proofs.Parts.{delta-comb, phi-at}
 use Rattle.planning.proofs.Round.{e-small, eraser-one, eraser-right, next-nonzero, next-ready, after-swaps-ready}
 use Rattle.planning.proofs.Rounds.{rounds-end}
 use Rattle.planning.proofs.Run.{moved-nonzero, moved-ready, plan-none}
-use Rattle.planning.proofs.Running.{empty-stays, runs-back, runs→sound, sound→runs}
+use Rattle.planning.proofs.Running.{empty-stuck, runs-back, runs→sound, sound→runs}
 use Rattle.planning.proofs.Still.{other-passes, still-passes}
 use Rattle.planning.proofs.Step1.{delta-regular, pairing-total}
 use Rattle.planning.proofs.Step2.{moved-zero, summands-one, summands-right, operations-inverse}
@@ -119,4 +119,4 @@ plan-right g rows c k =
 
 pub facts-right : Facts
 facts-right =
-    record { plan = plan-right; round = round-right; sound-runs = sound→runs; runs-sound = runs→sound; comes-back = runs-back; empty-stays = empty-stays }
+    record { plan = plan-right; round = round-right; sound-runs = sound→runs; runs-sound = runs→sound; comes-back = runs-back; empty-stuck = empty-stuck }

@@ -66,72 +66,6 @@ unfolding sound
 checked→sound plan k =
     rw (k .limits, k .count, k .rows-below, k .complements-below, k .rows-zero, k .complements-zero, k .regular, k .dry)
 
--- ---- what a sound plan gives
-module _ (plan : Plan) (e : sound plan ≡ true) where
-  checked : Checked plan
-  checked = sound→checked plan e
-
-  pub sound-allowed : Allowed (plan .geometry)
-  sound-allowed = limits→allowed (plan .geometry) (checked .limits)
-
-  pub sound-few : plan .count ≤ PASSES
-  unfolding countInLimits
-  sound-few = leb-true (plan .count) PASSES (checked .count)
-
-  sound-row : (p i : ℕ) → p < plan .count → i < plan .geometry .n → getD (plan .rows) (p * ROWS + i) 0 < records (plan .geometry)
-  unfolding strayRow
-  sound-row p i hp hi =
-      let stray : ℕ → ℕ → Bool = λ p i. leb (records (plan .geometry)) (getD (plan .rows) (p * ROWS + i) 0) in
-      leb-false (records (plan .geometry)) (getD (plan .rows) (p * ROWS + i) 0) (none-elim (stray p) (plan .geometry .n) i
-      (none-elim (λ p. anyBelow (stray p) (plan .geometry .n)) (plan .count) p (checked .rows-below) hp) hi)
-
-  sound-complement : (p : ℕ) → p < plan .count → getD (plan .complements) p 0 < records (plan .geometry)
-  unfolding strayComplement
-  sound-complement p hp =
-      leb-false (records (plan .geometry)) (getD (plan .complements) p 0)
-      (none-elim (λ p. leb (records (plan .geometry)) (getD (plan .complements) p 0)) (plan .count) p (checked .complements-below) hp)
-
-  sound-regular : (p : ℕ) → p < plan .count → singular (plan .geometry .n) (passAt (routeOf plan) p .rows) ≡ false
-  unfolding singularPass
-  sound-regular p = none-elim (λ p. singular (plan .geometry .n) (passAt (routeOf plan) p .rows)) (plan .count) p (checked .regular)
-
-  pub sound-dry : (p : ℕ) → p < plan .count → spills (plan .geometry .b) (plan .geometry .m) (passAt (routeOf plan) p .rows) ≡ false
-  unfolding spillingPass
-  sound-dry p = none-elim (λ p. spills (plan .geometry .b) (plan .geometry .m) (passAt (routeOf plan) p .rows)) (plan .count) p (checked .dry)
-
--- the route of a sound plan can run
-pub sound→runs : (plan : Plan) → length (plan .rows) ≡ PASSES * ROWS → sound plan ≡ true → Runs (routeOf plan)
-unfolding routeOf storedPass
-sound→runs plan long e = record {
-  inside = sound→checked plan e .limits;
-  few-passes = omega (arith, sound-few plan e, route-length plan);
-  each-runs = λ p h.
-      let n = plan .geometry .n in
-      let hp : p < plan .count = rw route-length at h in record {
-        rows-all = ap (λ (q : Pass). length (q .rows)) (route-at plan p hp)
-            ∙ taken-length PASSES ROWS n (plan .rows) p long (sound-allowed plan e .n-high) (omega (arith, sound-few plan e));
-        rows-below = λ i hi. rw (route-at plan p hp, taken-at ROWS n (plan .rows) p i hi) (sound-row plan e p i hp hi);
-        complement-below = rw (route-at plan p hp) (sound-complement plan e p hp);
-        regular = sound-regular plan e p hp;
-        dry = sound-dry plan e p hp;
-      };
-}
-
--- ---- the state's next step
-module _ (plan : Plan) (state : State) where
-  pub can-run→sound : canRun plan state ≡ true → sound plan ≡ true
-  unfolding canRun
-  can-run→sound e = and-l (sound plan) _ e
-
-  pub sound→can-run : sound plan ≡ true → state .next .0 ≤ total (routeOf plan) → canRun plan state ≡ true
-  unfolding canRun
-  sound→can-run e h = and-both (sound plan) (leb (state .next .0) (total (routeOf plan))) e (le-leb (state .next .0) (total (routeOf plan)) h)
-
--- the empty plan can't run
-pub empty-stays : (state : State) → canRun emptyPlan state ≡ false
-unfolding canRun sound inLimits
-empty-stays state = refl
-
 -- ---- a route that can run, stored, is a sound plan
 or-cases : (a b : Bool) → a || b ≡ true → (a ≡ true) ⊎ (b ≡ true)
 or-cases true b e = inl refl
@@ -211,3 +145,73 @@ module _ (route : Route) (k : Runs route) where
         none-intro (λ p. spills (g .b) (g .m) (passAt (routeOf (planOf route)) p .rows)) (length ps)
         (λ p h. ap (λ (r : Route). spills (g .b) (g .m) (passAt r p .rows)) runs-back ∙ k .each-runs p h .dry);
   })
+
+-- ---- what a sound plan gives
+module _ (plan : Plan) (e : sound plan ≡ true) where
+  checked : Checked plan
+  checked = sound→checked plan e
+
+  pub sound-allowed : Allowed (plan .geometry)
+  sound-allowed = limits→allowed (plan .geometry) (checked .limits)
+
+  pub sound-few : plan .count ≤ PASSES
+  unfolding countInLimits
+  sound-few = leb-true (plan .count) PASSES (checked .count)
+
+  sound-row : (p i : ℕ) → p < plan .count → i < plan .geometry .n → getD (plan .rows) (p * ROWS + i) 0 < records (plan .geometry)
+  unfolding strayRow
+  sound-row p i hp hi =
+      let stray : ℕ → ℕ → Bool = λ p i. leb (records (plan .geometry)) (getD (plan .rows) (p * ROWS + i) 0) in
+      leb-false (records (plan .geometry)) (getD (plan .rows) (p * ROWS + i) 0) (none-elim (stray p) (plan .geometry .n) i
+      (none-elim (λ p. anyBelow (stray p) (plan .geometry .n)) (plan .count) p (checked .rows-below) hp) hi)
+
+  sound-complement : (p : ℕ) → p < plan .count → getD (plan .complements) p 0 < records (plan .geometry)
+  unfolding strayComplement
+  sound-complement p hp =
+      leb-false (records (plan .geometry)) (getD (plan .complements) p 0)
+      (none-elim (λ p. leb (records (plan .geometry)) (getD (plan .complements) p 0)) (plan .count) p (checked .complements-below) hp)
+
+  sound-regular : (p : ℕ) → p < plan .count → singular (plan .geometry .n) (passAt (routeOf plan) p .rows) ≡ false
+  unfolding singularPass
+  sound-regular p = none-elim (λ p. singular (plan .geometry .n) (passAt (routeOf plan) p .rows)) (plan .count) p (checked .regular)
+
+  pub sound-dry : (p : ℕ) → p < plan .count → spills (plan .geometry .b) (plan .geometry .m) (passAt (routeOf plan) p .rows) ≡ false
+  unfolding spillingPass
+  sound-dry p = none-elim (λ p. spills (plan .geometry .b) (plan .geometry .m) (passAt (routeOf plan) p .rows)) (plan .count) p (checked .dry)
+
+-- the route of a sound plan can run
+pub sound→runs : (plan : Plan) → length (plan .rows) ≡ PASSES * ROWS → sound plan ≡ true → Runs (routeOf plan)
+unfolding routeOf storedPass
+sound→runs plan long e = record {
+  inside = sound→checked plan e .limits;
+  few-passes = omega (arith, sound-few plan e, route-length plan);
+  each-runs = λ p h.
+      let n = plan .geometry .n in
+      let hp : p < plan .count = rw route-length at h in record {
+        rows-all = ap (λ (q : Pass). length (q .rows)) (route-at plan p hp)
+            ∙ taken-length PASSES ROWS n (plan .rows) p long (sound-allowed plan e .n-high) (omega (arith, sound-few plan e));
+        rows-below = λ i hi. rw (route-at plan p hp, taken-at ROWS n (plan .rows) p i hi) (sound-row plan e p i hp hi);
+        complement-below = rw (route-at plan p hp) (sound-complement plan e p hp);
+        regular = sound-regular plan e p hp;
+        dry = sound-dry plan e p hp;
+      };
+}
+
+-- ---- the state's next step
+module _ (plan : Plan) (state : State) where
+  pub can-run→sound : canRun plan state ≡ true → sound plan ≡ true
+  unfolding canRun
+  can-run→sound e = and-l (sound plan) _ e
+
+  pub sound→can-run : sound plan ≡ true → state .next .0 ≤ total (routeOf plan) → canRun plan state ≡ true
+  unfolding canRun
+  sound→can-run e h = and-both (sound plan) (leb (state .next .0) (total (routeOf plan))) e (le-leb (state .next .0) (total (routeOf plan)) h)
+
+-- the empty plan's geometry is outside the limits, so it can't run
+empty-outside : inLimits (emptyPlan .geometry) ≡ false
+unfolding inLimits
+empty-outside = refl
+
+pub empty-stuck : (state : State) → canRun emptyPlan state ≡ false
+unfolding canRun sound
+empty-stuck state = rw empty-outside refl

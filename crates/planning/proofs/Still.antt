@@ -15,8 +15,7 @@ use Rattle.algebra.proofs.Linear.{apply-zero, comb-identity}
 use Rattle.algebra.proofs.Search.{and-both, and-l, and-r}
 use Rattle.algebra.specs.Matrix.{applied, identity, isIdentity, target}
 use Rattle.planning.proofs.Run.{rows-back}
-use Rattle.planning.specs.Facts.{Still}
-use Rattle.planning.specs.Making.{passesFor, passesMade}
+use Rattle.planning.specs.Making.{Still, passesFor, passesMade}
 use Rattle.planning.specs.Pass.{Pass}
 
 -- ---- an order that leaves every record where it is sends every address to itself ..

@@ -1,5 +1,5 @@
 -- Does a stored plan give its route back? Assumes nothing.
-use mathlib.Core.Path.{_∙_, _≡_, ap, ap₂, subst, sym}
+use mathlib.Core.Path.{_∙_, _≡_, ap, ap₂, refl, subst, sym}
 use mathlib.Core.List.{List, []}
 use Prim.Native.Nat.{_%_, _*_, _+_, _/_, _<_, _≤_, ℕ}
 use native.Mathlib.Nat.{mul-le-mul-right, suc-mul, zero-add}
@@ -9,6 +9,7 @@ use lib.ListN.{drop, getD, length, length-drop, take}
 use lib.Seq.{ext-getD, getD-drop, getD-take, length-take-le}
 use Rattle.bank.specs.Limits.{PASSES, ROWS}
 use Rattle.algebra.proofs.Listed.{listed-at, listed-length}
+use Rattle.algebra.specs.Search.{listed}
 use Rattle.planning.specs.Pass.{Pass, Route, passAt, passIn}
 use Rattle.planning.specs.Stored.{planOf, routeOf, storedComplements, storedPass, storedRows}
 use Rattle.planning.specs.declared.Plan.{Plan}
@@ -64,6 +65,10 @@ module _ (plan : Plan) where
   pub route-length : length (routeOf plan .passes) ≡ plan .count
   unfolding routeOf
   route-length = listed-length (storedPass ROWS (plan .geometry .n) (plan .rows) (plan .complements)) (plan .count) 0
+
+  pub route-none : plan .count ≡ 0 → routeOf plan .passes ≡ []
+  unfolding routeOf listed
+  route-none e = rw e refl
 
   pub route-at : (p : ℕ) → p < plan .count → passAt (routeOf plan) p ≡ storedPass ROWS (plan .geometry .n) (plan .rows) (plan .complements) p
   unfolding routeOf

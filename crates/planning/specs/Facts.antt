@@ -11,10 +11,10 @@ use Rattle.bank.specs.declared.Geometry.{Geometry}
 use Rattle.bank.specs.Geometry.{inLimits, records}
 use Rattle.algebra.specs.Search.{which}
 use Rattle.algebra.specs.Vector.{comb}
-use Rattle.algebra.specs.Matrix.{after, columns, identity, inverse, marked, rank, singular}
+use Rattle.algebra.specs.Matrix.{after, columns, inverse, marked, rank, singular}
 use Rattle.planning.specs.Columns.{delta, onlyMarked, phi, zeroColumn}
 use Rattle.planning.specs.Inner.{RoundReady, Runs}
-use Rattle.planning.specs.Making.{afterSwaps, busy, chosen, eraser, operations, passesFor, roundLeft, rounds, step1, summands, unmarked}
+use Rattle.planning.specs.Making.{Still, afterSwaps, busy, chosen, eraser, operations, passesFor, roundLeft, rounds, step1, summands, unmarked}
 use Rattle.planning.specs.Pass.{Route}
 use Rattle.planning.specs.Running.{canRun, sound}
 use Rattle.planning.specs.Stored.{emptyPlan, planFor, planOf, routeOf}
@@ -97,10 +97,6 @@ pub record Taken (g : Geometry) (rows : List ℕ) (c : ℕ) : Type 0 where
   pub complement-below : c < records g
   pub regular : singular (g .n) rows ≡ false
 
--- the order A, c leaves every record where it is: A is the identity, and c is 0
-abbrev pub Still : ℕ → List ℕ → ℕ → Type 0
-Still n rows c = (rows ≡ identity n) × (c ≡ 0)
-
 pub record PlanFacts (g : Geometry) (rows : List ℕ) (c : ℕ) : Type 0 where
   -- steps 1 and 2, and the rounds
   pub steps : StepFacts (g .n) (g .b) (g .m) (columns (g .n) rows)
@@ -124,4 +120,4 @@ pub record Facts : Type 0 where
   -- a route that is stored comes back
   pub comes-back : (route : Route) → Runs route → routeOf (planOf route) ≡ route
   -- the empty plan has no geometry, and can't run
-  pub empty-stays : (state : State) → canRun emptyPlan state ≡ false
+  pub empty-stuck : (state : State) → canRun emptyPlan state ≡ false

@@ -1,4 +1,5 @@
 -- Which passes has the plan for a matrix? "The plan, without choices", step by step. Assumes nothing.
+use mathlib.Core.Path.{_≡_}
 use mathlib.Core.Bool.{Bool, cond, not, _&&_}
 use mathlib.Core.List.{List, [], _∷_, map}
 use Prim.Native.Nat.{ℕ, zero, suc, _+_, _-_, _*_, _/_, _^_}
@@ -8,7 +9,7 @@ use lib.ListN.{getD}
 use Rattle.bank.specs.declared.Geometry.{Geometry}
 use Rattle.algebra.specs.Search.{firstOf, anyBelow, which}
 use Rattle.algebra.specs.Vector.{comb}
-use Rattle.algebra.specs.Matrix.{after, columns, inverse, isIdentity, marked}
+use Rattle.algebra.specs.Matrix.{after, columns, identity, inverse, isIdentity, marked}
 use Rattle.planning.specs.Pass.{Pass, complemented}
 use Rattle.planning.specs.Columns.{adding, placing, phi, delta, zeroColumn, onlyMarked}
 
@@ -117,9 +118,13 @@ passMatrices n b m rows =
     let p = operations n m a in
     map (columns n) (firstAfter (rounds m n b m (after a p)) (columns n (inverse n (columns n p))))
 
--- the passes that are made of A and c so
+-- the passes made of A and c by steps 1 to 4
 abbrev pub passesMade : Geometry → List ℕ → ℕ → List Pass
 passesMade g rows c = complemented (passMatrices (g .n) (g .b) (g .m) rows) c
+
+-- the order A, c leaves every record where it is: A is the identity, and c is 0
+abbrev pub Still : ℕ → List ℕ → ℕ → Type 0
+Still n rows c = (rows ≡ identity n) × (c ≡ 0)
 
 -- the passes of the order A, c: none where A is the identity and c is 0, since no record need move
 unfoldable pub passesFor : Geometry → List ℕ → ℕ → List Pass

@@ -1,12 +1,10 @@
 -- `plan::make::plan_made` meets its contract: each iteration stores one of the passes that are to come, and the last call what is left. Assumes nothing.
-use mathlib.Core.Path.{_∙_, _≡_, ap, sym}
+use mathlib.Core.Path.{_∙_, _≡_, sym}
 use Prim.Native.Nat.{_-_}
 use native.Mathlib.Omega.{arith}
 use lib.ListN.{length, take}
 use borrow.Author.Needs.{needs}
 use Rattle.bank.specs.Limits.{ROWS}
-use Rattle.bank.specs.declared.Geometry.{Geometry}
-use Rattle.planning.specs.declared.Plan.{Plan}
 use Rattle.bank.proofs.Limits.{limits→allowed}
 use Rattle.plan.proofs.Making.{Making, ahead, make-end, make-goes, make-room, make-start, make-once, make-whole}
 use Rattle.plan.proofs.make.plan_made.Statement.{statement}
