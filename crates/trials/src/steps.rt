@@ -15,9 +15,9 @@ use running::result_area;
 use running::total_steps;
 
 // The bytes of an area and of the memory in G, where a record has 8.
-const AREA: usize = 128;
+pub(crate) const AREA: usize = 128;
 
-const MEMORY: usize = 32;
+pub(crate) const MEMORY: usize = 32;
 
 // More than either.
 const LONG: usize = 136;
@@ -27,7 +27,7 @@ fn label_of(i: usize, first: u64) -> u8 {
     ((first % 256 + (i / 8) as u64 % 64) % 256) as u8
 }
 
-fn label(area: &mut [u8], first: u64) {
+pub(crate) fn label(area: &mut [u8], first: u64) {
     let mut i = 0;
     while i < area.len() {
         area[i] = label_of(i, first);
@@ -221,15 +221,20 @@ pub(crate) fn in_turn() {
     asks(b"then step 22", p, l, 22);
 }
 
-// A call with three labelled buffers; then how many bytes of each changed.
-fn lent_on(asked: &[u8], p: Plan, k: u64, area0: &mut [u8], area1: &mut [u8], memory: &mut [u8]) {
-    ask(asked, p, State::fresh(), k, area0, area1, memory);
+// How many bytes of three labelled buffers changed.
+pub(crate) fn say_changed(area0: &[u8], area1: &[u8], memory: &[u8]) {
     say::three(
         b"bytes that changed",
         changed(area0, 50),
         changed(area1, 150),
         changed(memory, 100),
     );
+}
+
+// A call with three labelled buffers; then how many bytes of each changed.
+fn lent_on(asked: &[u8], p: Plan, k: u64, area0: &mut [u8], area1: &mut [u8], memory: &mut [u8]) {
+    ask(asked, p, State::fresh(), k, area0, area1, memory);
+    say_changed(area0, area1, memory);
 }
 
 // The same with the first bytes of three long buffers, of the lengths given.
