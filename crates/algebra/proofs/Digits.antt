@@ -84,7 +84,7 @@ and-xor =
     (on-digits (λ a b c. bitAnd a (bitXor b c) ≡ bitXor (bitAnd a b) (bitAnd a c)) refl refl refl refl refl refl refl refl)
 
 -- x xor (x xor y) is y
-xor-cancel : (x y : ℕ) → bitXor x (bitXor x y) ≡ y
+pub xor-cancel : (x y : ℕ) → bitXor x (bitXor x y) ≡ y
 xor-cancel x y = sym (xor-assoc x x y) ∙ ap (λ (k : ℕ). bitXor k y) (xor-self x)
 
 pub xor-cancel-r : (x y : ℕ) → bitXor (bitXor x y) y ≡ x

@@ -8,15 +8,15 @@ use native.Mathlib.Omega.{arith}
 use lib.Pow.{pow-mono}
 use lib.Seq.{getD-drop, getD-take}
 use lib.Bits.{bitAnd, bitXor, xor-zero-r}
-use lib.Count.{ones, trailingZeros}
-use lib.ListN.{drop, drop-of-length-le, getD, length-drop, length-take, set, take}
+use lib.Count.{ones}
+use lib.ListN.{drop, drop-of-length-le, getD, length-drop, length-take, take}
 use borrow.Author.Tests.{eq-eqb, ne-eqb}
 use Rattle.algebra.proofs.Basis.{restOf, usedOf}
 use Rattle.algebra.proofs.Digits.{unless-zero, xor-assoc}
 use Rattle.algebra.proofs.Linear.{apply-lt}
-use Rattle.algebra.specs.Elimination.{Echelon, grown, rest, used}
+use Rattle.algebra.specs.Elimination.{Echelon, grown, rest, used, withEntry}
 use Rattle.algebra.specs.Matrix.{applied}
-use Rattle.algebra.specs.Vector.{WORD, bit, comb, parity, unlessZero}
+use Rattle.algebra.specs.Vector.{bit, comb, parity, unlessZero}
 
 -- ---- applying: no row yet
 pub apply-start : (rows : List ℕ) (n x : ℕ) → applied (drop n (take n rows)) x ≡ 0
@@ -76,15 +76,10 @@ pub grown-skip : (b : Echelon) (j col l : ℕ) → l ≡ restOf b col → l ≡ 
 unfolding grown
 grown-skip b j col l p z = rw (eq-eqb (restOf b col) 0 (sym p ∙ z))
 
--- the entry that code makes
-abbrev stored : Echelon → ℕ → ℕ → ℕ → Echelon
-stored b l w t =
-    record { vectors = set (b .vectors) (b .count) l; pivots = set (b .pivots) (b .count) w; tags = set (b .tags) (b .count) t; count = b .count + 1 }
-
-pub grown-entry : (b : Echelon) (j col l w t : ℕ) → l ≡ restOf b col → (l ≡ 0 → ⊥) → w ≡ trailingZeros WORD l
-    → t ≡ bitXor (2 ^ j) (usedOf b col) → stored b l w t ≡ grown b j col
+pub grown-entry : (b r : Echelon) (j col l t : ℕ) → r ≡ withEntry b l t → l ≡ restOf b col → (l ≡ 0 → ⊥) → t ≡ bitXor (2 ^ j) (usedOf b col)
+    → r ≡ grown b j col
 unfolding grown
-grown-entry b j col l w t p f q r = rw (ne-eqb (restOf b col) 0 (λ z. f (p ∙ z)), q, p, r)
+grown-entry b r j col l t e p f q = e ∙ rw (ne-eqb (restOf b col) 0 (λ z. f (p ∙ z)), p, q)
 
 -- ---- summing: one vector more. Past the end of the list there is nothing to add
 comb-at : (vs : List ℕ) (j s : ℕ) → comb (drop j vs) s ≡ bitXor (unlessZero (s % 2) (getD vs j 0)) (comb (drop (suc j) vs) (s / 2))

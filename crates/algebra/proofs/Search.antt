@@ -108,6 +108,25 @@ first-found p n k h e = go (anyBelow p n) refl
     go true q = least-holds p n (found-lt p n q)
     go false q = absurd (true≢false (sym e ∙ none-elim p n k q h))
 
+-- nothing before what is found holds
+pub first-before : (p : ℕ → Bool) (n k : ℕ) → k < firstOf p n → p k ≡ false
+unfolding firstOf
+first-before p n k h = go (anyBelow p n) h
+  where
+    go : (b : Bool) → k < cond b (least p n) 0 → p k ≡ false
+    go true l = least-before p n k l
+    go false l = absurd (omega arith)
+
+-- what is found is the one number that holds with nothing below it
+pub first-is : (p : ℕ → Bool) (n k : ℕ) → k < n → p k ≡ true → ((j : ℕ) → j < k → p j ≡ false) → firstOf p n ≡ k
+unfolding firstOf
+first-is p n k h e f = ap (λ (b : Bool). cond b (least p n) 0) (any-intro p n k h e) ∙ least-is p n k h e f
+
+-- where none holds, 0 is given
+pub first-none : (p : ℕ → Bool) (n : ℕ) → anyBelow p n ≡ false → firstOf p n ≡ 0
+unfolding firstOf
+first-none p n e = ap (λ (b : Bool). cond b (least p n) 0) e
+
 pub first-lt : (p : ℕ → Bool) (n : ℕ) → 0 < n → firstOf p n < n
 unfolding firstOf
 first-lt p n h = go (anyBelow p n) refl

@@ -5,7 +5,7 @@ use Prim.Native.Nat.{ℕ, zero, suc, _+_, _-_, _*_, _^_}
 use lib.Bits.{bitAnd, bitXor}
 use lib.Dec.{eqb, ltb}
 use lib.ListN.{getD, take, drop}
-use Rattle.algebra.specs.Search.{least, anyBelow}
+use Rattle.algebra.specs.Search.{least, anyBelow, firstOf}
 use Rattle.algebra.specs.Vector.{parity, comb, unitVectors}
 
 -- Ax: bit i is the parity of row i AND x
@@ -39,9 +39,9 @@ columns n rows = map (applied rows) (unitVectors n 0)
 unfoldable pub kills : List ℕ → ℕ → Bool
 kills rows z = ltb 0 z && eqb (applied rows z) 0
 
--- the least nonzero vector below 2 ^ n that A sends to zero, or 2 ^ n where there is none
+-- the least nonzero vector below 2 ^ n that A sends to zero, or 0 where there is none
 unfoldable pub kernel : ℕ → List ℕ → ℕ
-kernel n rows = least (kills rows) (2 ^ n)
+kernel n rows = firstOf (kills rows) (2 ^ n)
 
 -- A, of n columns, sends some nonzero vector to zero
 unfoldable pub singular : ℕ → List ℕ → Bool

@@ -9,6 +9,7 @@ use bank::Step;
 use mover::run::Ran;
 use mover::step::Stepped;
 use order::Order;
+use order::Verdict;
 use order::address::Source;
 use order::address::Target;
 use plan::make::Planned;
@@ -16,7 +17,7 @@ use planning::Plan;
 use planning::state::State;
 use reading::Read;
 
-fn judge(order: Order) -> u8
+fn judge(order: Order) -> Verdict
     ensures { λ r. ⌜ r ≡ ours .judges order ⌝ }
 {
     order::judge(order)
@@ -87,7 +88,7 @@ fn run(
 }
 
 fn read_order(text: &[u8]) -> Read
-    ensures { λ r. ⌜ ours .reads (now (text .entry)) (r .number) (r .order) ⌝ }
+    ensures { λ r. ⌜ ours .reads (now (text .entry)) (r .number) (r .order) (r .z .0) ⌝ }
 {
     reading::read_order(text)
 }

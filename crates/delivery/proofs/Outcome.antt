@@ -34,11 +34,11 @@ use Rattle.delivery.specs.Outcome.{Outcome}
 
 -- ---- one outcome: it is a function of what reading the text gives, and of the bytes
 
-answerBy : ℕ → Order → Buffers → Delivery
-answerBy zero order v =
+answerBy : ℕ → Order → ℕ → Buffers → Delivery
+answerBy zero order z v =
     let g = order .geometry in
-    cond (roomFor g v) (cond (eqb (length (v .area0)) (areaBytes g)) Done (Refused 4)) (NoRoom (areaBytes g))
-answerBy (suc k) order v = Refused (suc k)
+    cond (roomFor g v) (cond (eqb (length (v .area0)) (areaBytes g)) Done (Refused 4 (record { 0 = 0 }))) (NoRoom (areaBytes g))
+answerBy (suc k) order z v = Refused (suc k) (record { 0 = z })
 
 bytesBy : ℕ → Order → Buffers → Buffers
 bytesBy zero order v =
@@ -55,28 +55,29 @@ either false e = refl
 record Decided (text : List ℕ) (v : Buffers) (answer : Delivery) (w : Buffers) : Type 0 where
   number : ℕ
   order : Order
-  read : Reads text number order
-  answered : answer ≡ answerBy number order v
+  z : ℕ
+  read : Reads text number order z
+  answered : answer ≡ answerBy number order z v
   bytes : w ≡ bytesBy number order v
 
 decided : {text : List ℕ} {v : Buffers} {answer : Delivery} {w : Buffers} → DeliveryPromise text v answer w → Decided text v answer w
 unfolding answerBy bytesBy
-decided (unread k r) = record { number = suc k; order = noOrder; read = r; answered = refl; bytes = refl }
-decided (no-room order r e) = record { number = 0; order = order; read = r; answered = rw e; bytes = rw e }
+decided (unread k z r) = record { number = suc k; order = noOrder; z = z; read = r; answered = refl; bytes = refl }
+decided (no-room order r e) = record { number = 0; order = order; z = 0; read = r; answered = rw e; bytes = rw e }
 decided {v = v} (other-length order r e ne) =
     let n = ne-eqb (length (v .area0)) (areaBytes (order .geometry)) ne in
-    record { number = 0; order = order; read = r; answered = rw (e, n); bytes = rw (e, n) }
+    record { number = 0; order = order; z = 0; read = r; answered = rw (e, n); bytes = rw (e, n) }
 decided {v = v} (done order r e long set) =
     let n = eq-eqb (length (v .area0)) (areaBytes (order .geometry)) long in
-    record { number = 0; order = order; read = r; answered = rw (e, n); bytes = rw (e, n) }
+    record { number = 0; order = order; z = 0; read = r; answered = rw (e, n); bytes = rw (e, n) }
 
 one : (text : List ℕ) (v : Buffers) (answer answer′ : Delivery) (w w′ : Buffers)
     → DeliveryPromise text v answer w → DeliveryPromise text v answer′ w′ → (answer ≡ answer′) × (w ≡ w′)
 one text v answer answer′ w w′ p p′ =
     let a = decided p in
     let b = decided p′ in
-    let e = ours-answers .read-one text (a .number) (b .number) (a .order) (b .order) (a .read) (b .read) in (
-      a .answered ∙ ap₂ (λ (k : ℕ) (o : Order). answerBy k o v) (e .0) (e .1) ∙ sym (b .answered),
+    let e = ours-answers .read-one text (a .number) (b .number) (a .order) (b .order) (a .z) (b .z) (a .read) (b .read) in (
+      a .answered ∙ (λ i. answerBy (e .0 i) (e .1 i) (e .2 i) v) ∙ sym (b .answered),
       a .bytes ∙ ap₂ (λ (k : ℕ) (o : Order). bytesBy k o v) (e .0) (e .1) ∙ sym (b .bytes),
     )
 
@@ -133,11 +134,11 @@ module _ (order : Order) (room : length (order .rows) ≡ ROWS) (taken : judgeme
       ap (λ (w : Buffers). cond (roomFor g v) (cond (eqb (length (v .area0)) (areaBytes g)) w v) v) (delivery-leaves v)
       ∙ either (roomFor g v) (either (eqb (length (v .area0)) (areaBytes g)) refl)
 
-untouched : (text : List ℕ) (order : Order) → Reads text 0 order → StillOrder order → (v : Buffers) (answer : Delivery) (w : Buffers)
+untouched : (text : List ℕ) (order : Order) → Reads text 0 order 0 → StillOrder order → (v : Buffers) (answer : Delivery) (w : Buffers)
     → DeliveryPromise text v answer w → w ≡ v
 untouched text order r still v answer w p =
     let a = decided p in
-    let e = ours-answers .read-one text (a .number) 0 (a .order) order (a .read) r in
+    let e = ours-answers .read-one text (a .number) 0 (a .order) order (a .z) 0 (a .read) r in
     let t = read-taken r refl in
     a .bytes ∙ ap₂ (λ (k : ℕ) (o : Order). bytesBy k o v) (e .0) (e .1) ∙ bytes-leave order (t .room) (t .judged) still v
 

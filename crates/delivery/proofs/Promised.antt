@@ -22,15 +22,23 @@ use Rattle.delivery.specs.Delivery.DeliveryPromise.{unread, no-room, oth
 
 -- ---- a text that is refused
 
-pub unread-promise : (text : List ℕ) (v : Buffers) (k : ℕ) (order : Order) → Reads text k order → (k ≡ 0 → ⊥) → DeliveryPromise text v (Refused k) v
-unread-promise text v zero order r ne = absurd (ne refl)
-unread-promise text v (suc k) order r ne = unread k (subst (Reads text (suc k)) (ours-answers .read-refused text (suc k) order r ne) r)
+pub unread-promise : (text : List ℕ) (v : Buffers) (k : ℕ) (order : Order) (z : ℕ) → Reads text k order z → (k ≡ 0 → ⊥)
+    → DeliveryPromise text v (Refused k (record { 0 = z })) v
+unread-promise text v zero order z r ne = absurd (ne refl)
+unread-promise text v (suc k) order z r ne =
+    unread k z (subst (λ (o : Order). Reads text (suc k) o z) (ours-answers .read-refused text (suc k) order z r ne) r)
 
 -- ---- the lengths
 
+-- a text that isn't refused has no z
+pub read-none : {text : List ℕ} {k : ℕ} {order : Order} {z : ℕ} → Reads text k order z → k ≡ 0 → Reads text 0 order 0
+read-none {text} {k} {order} {z} r e =
+    let none = ours-answers .explained .read-else text k order z r (λ q. omega (arith, e, q)) in
+    subst (λ (j : ℕ). Reads text j order 0) e (subst (Reads text k order) none r)
+
 -- a text that is read, and its order's run is of s bytes, its memory of k
 pub record Measured (text : List ℕ) (order : Order) (s k : ℕ) : Type 0 where
-  pub read : Reads text 0 order
+  pub read : Reads text 0 order 0
   pub is-run : s ≡ areaBytes (order .geometry)
   pub is-memory : k ≡ memoryBytes (order .geometry)
 
@@ -59,7 +67,7 @@ module _ {text : List ℕ} {order : Order} {s k : ℕ} (m : Measured text order 
       enough : roomFor g v ≡ true
       enough = rw (area-enough, le-leb (memoryBytes g) (length (v .memory)) (omega (arith, m .is-memory)))
 
-      pub other-length-promise : (length (v .area0) ≡ s → ⊥) → DeliveryPromise text v (Refused 4) v
+      pub other-length-promise : (length (v .area0) ≡ s → ⊥) → DeliveryPromise text v (Refused 4 (record { 0 = 0 })) v
       other-length-promise ne = other-length order (m .read) enough (λ e. ne (e ∙ sym (m .is-run)))
 
       module _ (long : length (v .area0) ≡ s) where

@@ -59,14 +59,14 @@ afterDelivery order v =
 
 -- for this order text and these bytes a delivery may answer so, and leave these bytes
 pub data DeliveryPromise (text : List ℕ) (v : Buffers) : Delivery → Buffers → Type 0 where
-  -- 8, 1, 3: what reading the text is refused by
-  unread : (k : ℕ) → Reads text (suc k) noOrder → DeliveryPromise text v (Refused (suc k)) v
+  -- 8, 1, 3: what reading the text is refused by, and its z
+  unread : (k z : ℕ) → Reads text (suc k) noOrder z → DeliveryPromise text v (Refused (suc k) (record { 0 = z })) v
   -- the run's N·R bytes or its memory's M·R don't fit the spare area and the memory
-  no-room : (order : Order) → Reads text 0 order → roomFor (order .geometry) v ≡ false
+  no-room : (order : Order) → Reads text 0 order 0 → roomFor (order .geometry) v ≡ false
       → DeliveryPromise text v (NoRoom (areaBytes (order .geometry))) v
   -- 4: what came in isn't N·R bytes
-  other-length : (order : Order) → Reads text 0 order → roomFor (order .geometry) v ≡ true
-      → (length (v .area0) ≡ areaBytes (order .geometry) → ⊥) → DeliveryPromise text v (Refused 4) v
+  other-length : (order : Order) → Reads text 0 order 0 → roomFor (order .geometry) v ≡ true
+      → (length (v .area0) ≡ areaBytes (order .geometry) → ⊥) → DeliveryPromise text v (Refused 4 (record { 0 = 0 })) v
   -- for all else the run is in tray order
-  done : (order : Order) → Reads text 0 order → roomFor (order .geometry) v ≡ true → length (v .area0) ≡ areaBytes (order .geometry)
+  done : (order : Order) → Reads text 0 order 0 → roomFor (order .geometry) v ≡ true → length (v .area0) ≡ areaBytes (order .geometry)
       → InTrayOrder order (v .area0) (afterDelivery order v .area0) → DeliveryPromise text v Done (afterDelivery order v)

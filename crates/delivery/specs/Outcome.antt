@@ -20,5 +20,5 @@ pub record Outcome : Type 0 where
   pub one-order : (order : Order) → length (order .rows) ≡ ROWS → judgement order ≡ 0 → (before after after′ : List ℕ)
       → length before ≡ areaBytes (order .geometry) → InTrayOrder order before after → InTrayOrder order before after′ → after ≡ after′
   -- an order that leaves every record where it is leaves every lent byte as it was, whatever is answered
-  pub untouched : (text : List ℕ) (order : Order) → Reads text 0 order → StillOrder order → (v : Buffers) (answer : Delivery) (w : Buffers)
+  pub untouched : (text : List ℕ) (order : Order) → Reads text 0 order 0 → StillOrder order → (v : Buffers) (answer : Delivery) (w : Buffers)
       → DeliveryPromise text v answer w → w ≡ v

@@ -7,6 +7,7 @@ ghost use Rattle.bank.specs.Geometry.{inLimits};
 ghost use Rattle.order.specs.Order.{judgement};
 ghost use Rattle.moving.specs.Step.{buffersOf, areaBytes, memoryBytes, buffersFit};
 ghost use Rattle.delivery.specs.Delivery.{setInOrder, DeliveryPromise};
+use bank::Address;
 use bank::Geometry;
 use bank::power;
 use bank::wide;
@@ -18,10 +19,10 @@ use running::result_area;
 use sending::progress::Progress;
 use sending::send_all;
 
-// Done; refused by a number; or the run, of so many bytes, has no room in the buffers.
+// Done; refused by a number, and z with 3, 0 with every other; or the run, of so many bytes, has no room in the buffers.
 pub enum Delivery {
     Done,
-    Refused(u8),
+    Refused(u8, Address),
     NoRoom(u64),
 }
 
@@ -76,8 +77,9 @@ pub fn deliver(
         (buffersOf (now (run .exit)) (now (spare .exit)) (now (memory .exit))) ⌝ }
 {
     let read = read_order(text);
+    let z = read.z;
     if read.number != 0 {
-        return Delivery::Refused(read.number);
+        return Delivery::Refused(read.number, z);
     }
     let order = read.order;
     let g = order.geometry;
@@ -90,7 +92,7 @@ pub fn deliver(
         return Delivery::NoRoom(size as u64);
     }
     if run.len() != size {
-        return Delivery::Refused(4);
+        return Delivery::Refused(4, Address(0));
     }
     set_in_order(
         order,

@@ -9,7 +9,7 @@ use Rattle.order.specs.declared.Order.{Order}
 use Rattle.order.specs.declared.address.Target.{Target}
 use Rattle.order.specs.declared.address.Source.{Source}
 use Rattle.order.specs.declared.address.Source.the-variants as answer
-use Rattle.order.specs.Order.{matrixOf}
+use Rattle.order.specs.Order.{matrixOf, withZ, zWith}
 use Rattle.order.specs.Address.{Found, foundFor, meaningOf, questionNumber, targetOf}
 use Rattle.order.proofs.Asked.{source-given, source-refused, target-refused}
 use Rattle.order.proofs.Main.{one-answer}
@@ -30,8 +30,10 @@ use Rattle.reading.specs.Reading.Reads.{no-first-line, outside, no-rest, singul
 use Rattle.reading.proofs.First.{read-first}
 use Rattle.reading.proofs.Main.{one-reading, read-taken, some-reading}
 use Rattle.demands.specs.Ours.{ours}
-use Rattle.demands.specs.Answers.{Answers, Refusal}
+use Rattle.demands.specs.Answers.{Answers}
+use Rattle.demands.specs.Numbers.{Refusal}
 use Rattle.demands.proofs.Numbers.{ours-numbers}
+use Rattle.demands.proofs.Shows.{ours-explains}
 use Rattle.demands.proofs.Promised.{run-promised, run-refused, runAnswer, step-number, step-promised, step-refused, step-state, stepAnswer}
 
 -- asked backwards: an answer for each number
@@ -40,16 +42,18 @@ some-source order y = by (questionNumber order y) refl
   where
     by : (k : ℕ) → questionNumber order y ≡ k → (a : Source) × (meaningOf a ≡ foundFor order y)
     by zero e = (answer.From (record { 0 = source (order .geometry .n) (matrixOf order) (order .complement) y }), source-given order y _ e refl)
-    by (suc k) e = (answer.Refused (suc k), source-refused order y (suc k) (sym e) (λ z. omega arith))
+    by (suc k) e =
+        let z = zWith (questionNumber order y) order in
+        (answer.Refused (suc k) (record { 0 = z }), source-refused order y (suc k) z (sym e) refl (λ z. omega arith))
 
 no-source : (order : Order) (y : ℕ) (a : Source) → meaningOf a ≡ foundFor order y → Refusal (meaningOf a .number) → meaningOf a .sources ≡ []
 unfolding foundFor meaningOf
 no-source order y a p f =
-    let q = source-refused order y (questionNumber order y) refl (λ e. f (ap (λ (r : Found). r .number) p ∙ e)) in
+    let q = source-refused order y (questionNumber order y) _ refl refl (λ e. f (ap (λ (r : Found). r .number) p ∙ e)) in
     ap (λ (r : Found). r .sources) (p ∙ sym q)
 
 -- a text that is refused gives no order
-refused-empty : {text : List ℕ} {k : ℕ} {order : Order} → Reads text k order → Refusal k → order ≡ noOrder
+refused-empty : {text : List ℕ} {k : ℕ} {order : Order} {z : ℕ} → Reads text k order z → Refusal k → order ≡ noOrder
 refused-empty (no-first-line h) f = refl
 refused-empty (outside g b e) f = refl
 refused-empty (no-rest g b e h) f = refl
@@ -57,9 +61,9 @@ refused-empty (singular g order b e w j) f = refl
 refused-empty (taken g order b e w j) f = absurd (f refl)
 
 -- the plan of an order that is taken can run, and has the first lines of a listing
-something-listed : (text : List ℕ) (order : Order) → Reads text 0 order → 0 < length (listing (plannedFor order .plan))
+something-listed : (text : List ℕ) (order : Order) (z : ℕ) → Reads text 0 order z → 0 < length (listing (plannedFor order .plan))
 unfolding headLines
-something-listed text order r =
+something-listed text order z r =
     let t = read-taken r refl in
     rw (listing-parts (plannedFor order .plan) (made-accepted order (t .room) (t .judged) .sound-plan)) (omega arith)
 
@@ -68,7 +72,8 @@ unfolding targetOf plannedFor
 ours-answers =
     record {
       numbered = ours-numbers;
-      target-refused = λ order x f. sym (ap (λ (t : Target). t .address .0) (target-refused order x (questionNumber order x) refl f));
+      explained = ours-explains;
+      target-refused = λ order x f. sym (ap (λ (t : Target). t .address .0) (target-refused order x (withZ (questionNumber order x) order) refl f));
       source-refused = no-source;
       source-some = some-source;
       source-one = λ order y a b p q. one-answer a b (p ∙ sym q);
@@ -97,7 +102,7 @@ ours-answers =
         λ i. record { number = (p .number ∙ sym (k .number)) i; count = (p .count ∙ sym (k .count)) i; state = (p .state′ ∙ sym (k .state′)) i },
         p .bytes ∙ sym (k .bytes),
       );
-      read-refused = λ text k order r f. refused-empty r f;
+      read-refused = λ text k order z r f. refused-empty r f;
       read-some = some-reading;
       read-one = one-reading;
       read-first = read-first;

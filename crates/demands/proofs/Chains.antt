@@ -20,7 +20,8 @@ use Rattle.mover.specs.declared.run.Ran.{Ran}
 use Rattle.mover.specs.Promise.{RunPromise, numberOf, stateOf}
 use Rattle.demands.specs.Mover.{Mover}
 use Rattle.demands.specs.Ours.{ours}
-use Rattle.demands.specs.Answers.{Answers, Refusal}
+use Rattle.demands.specs.Answers.{Answers}
+use Rattle.demands.specs.Numbers.{Refusal}
 use Rattle.demands.specs.Chain.{Called, Chain, Stray, momentOf, returned, strayed}
 use Rattle.demands.specs.Chain.Called.{asked, allowed}
 use Rattle.demands.specs.Chain.Chain.{noCalls, step, run, strayStep, strayRun}

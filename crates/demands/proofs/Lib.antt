@@ -1,5 +1,6 @@
 pub mod Promised
 pub mod Numbers
+pub mod Shows
 pub mod Answers
 pub mod Sends
 pub mod OneStep

@@ -110,16 +110,16 @@ module _ (text : List ℕ) where
       (cond (eqb j 3) (Judged 3)
       (cond (eqb j 0) (Judged 0) ⊥)))
 
-  text-due : {k : ℕ} {order : Order} → Reads text k order → textDue k
+  text-due : {k : ℕ} {order : Order} {z : ℕ} → Reads text k order z → textDue k
   text-due (no-first-line f) = inl f
   text-due (outside g b i) = (g, (b, i))
   text-due (no-rest g b i n) = inr (g, (b, i), n)
   text-due (singular g order b i w j) = (g, order, (b, i), w, j)
   text-due (taken g order b i w j) = (g, order, (b, i), w, j)
 
-  module _ (k : ℕ) (order : Order) (r : Reads text k order) where
-    is-read : {j : ℕ} {other : Order} → Reads text j other → k ≡ j
-    is-read {j} {other} s = one-reading text k j order other r s .0
+  module _ (k : ℕ) (order : Order) (z : ℕ) (r : Reads text k order z) where
+    is-read : {j : ℕ} {other : Order} {y : ℕ} → Reads text j other y → k ≡ j
+    is-read {j} {other} {y} s = one-reading text k j order other z y r s .0
 
     unread : Unreadable text → k ≡ 8
     unread (inl f) = is-read (no-first-line f)
@@ -142,5 +142,5 @@ ours-numbers =
       of-run = λ plan m q r w p. run-numbers plan m r (p .number);
       of-text = text-numbers;
       reads-own = λ order room e. read-written order e room;
-      only-own = λ text order r. read-taken r refl .is;
+      only-own = λ text order z r. read-taken r refl .is;
     }

@@ -8,9 +8,9 @@ use native.Mathlib.Nat.{le-refl}
 use native.Mathlib.Omega.{arith}
 use lib.Bits.{bitXor}
 use lib.Dec.{eqb}
-use lib.ListN.{getD, take, replicate, List·getD-append}
+use lib.ListN.{getD, length-take, take, replicate, List·getD-append}
 use lib.Pow.{pow-lt, pow-pos}
-use lib.Seq.{take-append-seam, getD-append-add}
+use lib.Seq.{take-append-seam, getD-append-add, getD-take}
 use Rattle.bank.specs.Limits.{ROWS}
 use Rattle.bank.specs.declared.Geometry.{Geometry}
 use Rattle.bank.specs.Geometry.{inLimits, records}
@@ -18,10 +18,11 @@ use Rattle.bank.proofs.Limits.{limits→allowed}
 use Rattle.algebra.specs.Matrix.{identity, singular, target}
 use Rattle.algebra.proofs.Lists.{getD-zeros}
 use Rattle.algebra.proofs.Linear.{apply-zero}
-use Rattle.algebra.proofs.Singular.{identity-regular}
+use Rattle.algebra.proofs.Singular.{identity-regular, kernel-singular, zero-rows}
 use Rattle.algebra.proofs.Columns.{identity-at, identity-length}
-use Rattle.order.specs.Order.{matrixOf, badForm, judgement}
-use Rattle.order.proofs.Judged.{good-form, regular-none}
+use Rattle.order.specs.Order.{matrixOf, badForm, judgement, verdict, withZ}
+use Rattle.order.specs.declared.Verdict.{Verdict}
+use Rattle.order.proofs.Judged.{good-form, regular-none, singular-three, z-three}
 use Rattle.planning.specs.declared.Plan.{Plan}
 use Rattle.moving.specs.Step.{Buffers, buffersFit}
 use Rattle.moving.specs.Call.{Moment}
@@ -34,7 +35,7 @@ use Rattle.demands.specs.Chain.Chain.{noCalls, step, run, strayStep, str
 use Rattle.demands.specs.Numbers.{Ready, StepNumbers}
 use Rattle.demands.specs.Answers.{Answers}
 use Rattle.demands.specs.Delivers.{Reached}
-use Rattle.demands.specs.Possible.{Call, Comes, Possible, again, busyCalls, callsOf, flipOrder, inTurn, xorOrder}
+use Rattle.demands.specs.Possible.{Call, Comes, Possible, again, busyCalls, callsOf, flipOrder, inTurn, xorOrder, zeroOrder}
 use Rattle.demands.specs.Possible.Call.{asks, runs}
 use Rattle.order.specs.Address.{sentTo}
 
@@ -69,6 +70,17 @@ flip-taken g inside = xor-taken g 1 inside (pow-lt {i = 0} (omega (arith, limits
 flip-moves : (g : Geometry) → inLimits g ≡ true → sentTo (flipOrder g) 0 ≡ 1
 unfolding target
 flip-moves g inside = ap (λ (k : ℕ). bitXor k 1) (apply-zero (matrixOf (flipOrder g)))
+
+-- ---- an order that is refused by 3: zero rows
+zero-refused : (g : Geometry) → inLimits g ≡ true → verdict (zeroOrder g) ≡ record { number = 3; z = record { 0 = 1 } }
+zero-refused g inside =
+    let order = zeroOrder g in
+    let zero : (i : ℕ) → getD (order .rows) i 0 ≡ 0 = getD-zeros ROWS in
+    let form = good-form order (λ i h. subst (λ (k : ℕ). k < records g) (sym (zero i)) (pow-pos (g .n))) (pow-pos (g .n)) (λ i h l. zero i) in
+    let least = zero-rows (g .n) (matrixOf order) (omega (arith, limits→allowed g inside .n-low)) (simp length-take (omega arith))
+    (λ i h. getD-take (g .n) (order .rows) i 0 h ∙ zero i) in
+    let three = singular-three order inside form (kernel-singular (g .n) (matrixOf order) (λ e. omega (arith, least, e))) in
+    ap (λ (k : ℕ). withZ k order) three ∙ ap {B = Verdict} (λ (k : ℕ). record { number = 3; z = record { 0 = k } }) (z-three order refl ∙ least)
 
 -- ---- a chain and another from where it ended
 
@@ -193,6 +205,7 @@ possible =
       moves = flip-moves;
       still-taken = λ g inside. xor-taken g 0 inside (pow-pos (g .n));
       still = λ g. (xor-matrix g 0, refl);
+      refused-3 = zero-refused;
       comes = λ M answers delivers order room taken v fitting.
           let own = delivers .own order room taken in
           busy-comes M answers (M .plans order .plan) v

@@ -14,7 +14,7 @@ use Rattle.moving.proofs.Calls.{nine-means, nine-state, repeat-keeps, repeat-nu
 use Rattle.mover.specs.declared.step.Stepped.{Stepped}
 use Rattle.mover.specs.Promise.{StepPromise, numberOf, stateOf}
 use Rattle.demands.specs.Ours.{ours}
-use Rattle.demands.specs.Answers.{Refusal}
+use Rattle.demands.specs.Numbers.{Refusal}
 use Rattle.demands.specs.Chain.{Called, Chain, momentOf}
 use Rattle.demands.specs.Chain.Chain.{noCalls, step, run, strayStep, strayRun}
 use Rattle.demands.specs.Repeats.{Repeats, quiet}

@@ -18,7 +18,7 @@ use Rattle.order.proofs.Asked.{number-none, number-order, number-ten, target-nu
 use Rattle.order.proofs.Judged.{formless, outside-limits, regular-none, singular-three, word-form}
 use Rattle.order.proofs.Main.{comes, sends, shared-target→three, three→shared-target}
 use Rattle.demands.specs.Ours.{ours}
-use Rattle.demands.specs.Answers.{Refusal}
+use Rattle.demands.specs.Numbers.{Refusal}
 use Rattle.demands.specs.Sends.{Formed, OnlySource, Sends, SharedTarget}
 use Rattle.demands.proofs.Numbers.{exactly}
 
@@ -36,14 +36,14 @@ module _ (order : Order) where
 
   shared-three : Formed order × SharedTarget order → judgement order ≡ 3
   shared-three d =
-      let s = d .1 in
+      let s = d .1 .2 in
       shared-target→three order (d .0 .0) (d .0 .1)
-      (record { x = s .x; y = s .y; x-lt = s .x-below; y-lt = s .y-below; apart = s .different; same = s .shared })
+      (record { x = d .1 .0; y = d .1 .1; x-lt = s .x-below; y-lt = s .y-below; apart = s .different; same = s .shared })
 
   three-shares : Formed order → judgement order ≡ 3 → SharedTarget order
   three-shares f e =
       let k = three→shared-target order (f .0) (f .1) e in
-      record { x = k .x; y = k .y; x-below = k .x-lt; y-below = k .y-lt; different = k .apart; shared = k .same }
+      (k .x, k .y, record { x-below = k .x-lt; y-below = k .y-lt; different = k .apart; shared = k .same })
 
   -- an order in good form is judged 3 or 0
   formed-judged : Formed order → (judgement order ≡ 3) ⊎ (judgement order ≡ 0)

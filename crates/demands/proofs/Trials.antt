@@ -4,8 +4,8 @@ use lib.Dec.{T}
 use Rattle.bank.specs.Geometry.{inLimits}
 use Rattle.algebra.specs.Search.{leastFrom, least, anyBelow, firstOf, which, listed, allPass}
 use Rattle.algebra.specs.Vector.{bit, parity, unlessZero, comb, unitVectors}
-use Rattle.algebra.specs.Matrix.{applied, target, columns, identity, isIdentity, kills, singular, marked, after, inverse, source}
-use Rattle.order.specs.Order.{strayRow, strayComplement, spareRow, badForm, judgement, formNumber}
+use Rattle.algebra.specs.Matrix.{applied, target, columns, identity, isIdentity, kernel, kills, singular, marked, after, inverse, source}
+use Rattle.order.specs.Order.{strayRow, strayComplement, spareRow, badForm, judgement, formNumber, zWith}
 use Rattle.order.specs.Address.{questionNumber, targetOf}
 use Rattle.planning.specs.Pass.{complemented, phases, passSteps, total}
 use Rattle.planning.specs.Columns.{adding, placing, phi, delta, zeroColumn, onlyMarked}
@@ -18,8 +18,8 @@ use Rattle.running.specs.Total.{totalSteps, resultArea}
 use Rattle.demands.specs.Trials.{trials, right}
 
 pub trials-right : T (allPass right trials)
-unfolding ones inLimits leastFrom least anyBelow firstOf which listed bit parity unlessZero comb unitVectors identity isIdentity applied target columns kills singular
-    marked strayRow strayComplement spareRow badForm formNumber judgement questionNumber targetOf complemented phases passSteps total after adding
+unfolding ones inLimits leastFrom least anyBelow firstOf which listed bit parity unlessZero comb unitVectors identity isIdentity applied target columns kernel kills singular
+    marked strayRow strayComplement spareRow badForm formNumber judgement zWith questionNumber targetOf complemented phases passSteps total after adding
     placing source inverse phi delta zeroColumn onlyMarked reached chosen unmarked partner step1 summands step2 operations cameFrom swaps eraser
     erases busy rounds firstAfter passMatrices passesFor storedRows storedComplements planOf storedPass routeOf planFor countInLimits plannedFor
     totalSteps resultArea

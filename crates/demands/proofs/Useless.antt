@@ -1,25 +1,28 @@
 -- Why is each useless mover shut out? By one small order. Assumes nothing.
 use mathlib.Core.Path.{_≡_, refl, sym, ap, ap₂, _∙_, subst}
-use mathlib.Core.Bool.{cond, true≢false}
-use mathlib.Core.List.{List, [], _∷_}
-use Prim.Native.Nat.{ℕ, _<_, _^_}
+use mathlib.Core.Bool.{cond, false, true≢false}
+use mathlib.Core.List.{List, [], _∷_, _++_}
+use Prim.Native.Nat.{ℕ, _-_, _<_, _^_}
 use native.Mathlib.Omega.{arith}
 use native.Mathlib.Nat.{mod-lt}
+use lib.Count.{ones}
 use lib.Dec.{eqb, lit<}
 use lib.ListN.{getD, replicate}
 use Rattle.bank.specs.Limits.{ROWS}
 use Rattle.bank.specs.declared.Geometry.{Geometry}
 use Rattle.bank.specs.Checks.{handed}
 use Rattle.bank.specs.Geometry.{inLimits, tierAt, tiers}
-use Rattle.algebra.specs.Search.{least, leastFrom, anyBelow}
-use Rattle.algebra.specs.Vector.{WORD, unitVectors}
-use Rattle.algebra.specs.Matrix.{identity, isIdentity}
+use Rattle.algebra.specs.Search.{least, leastFrom, anyBelow, firstOf}
+use Rattle.algebra.specs.Vector.{WORD, parity, unitVectors}
+use Rattle.algebra.specs.Matrix.{applied, columns, identity, isIdentity, kernel, kills, singular, target}
 use Rattle.algebra.proofs.Lists.{getD-zeros}
 use Rattle.order.specs.declared.address.Target.{Target}
-use Rattle.order.specs.Order.{Words, matrixOf}
+use Rattle.order.specs.declared.Order.{Order}
+use Rattle.order.specs.declared.Verdict.{Verdict}
+use Rattle.order.specs.Order.{Words, badForm, formNumber, judgement, matrixOf, spareRow, strayComplement, strayRow, zWith}
 use Rattle.order.specs.Address.{questionNumber}
 use Rattle.order.proofs.Accepted.{judgement→accepted, matrix-length}
-use Rattle.order.proofs.Asked.{number-none}
+use Rattle.order.proofs.Asked.{number-none, number-order}
 use Rattle.planning.specs.Pass.{loadSteps, passSteps, phases}
 use Rattle.planning.specs.State.{freshState}
 use Rattle.planning.specs.Making.{passesMade}
@@ -34,6 +37,10 @@ use Rattle.moving.specs.Step.{Buffers, readFrom}
 use Rattle.moving.specs.Call.{begun}
 use Rattle.mover.specs.declared.step.Stepped.the-variants.{Again, Done, Refused}
 use Rattle.mover.specs.Promise.{numberOf, stateOf}
+use Rattle.text.specs.Lines.{bits, line, rowLines}
+use Rattle.reading.specs.OrderText.{orderText}
+use Rattle.reading.specs.Reading.{Begins, Whole, noOrder}
+use Rattle.reading.specs.Reading.Reads.{singular as read-singular}
 use Rattle.listing.specs.Listing.{listing, headLines}
 use Rattle.demands.specs.Chain.{newSteps, momentOf}
 use Rattle.demands.specs.Chain.Called.{allowed}
@@ -41,13 +48,14 @@ use Rattle.demands.specs.Chain.Chain.{noCalls, run}
 use Rattle.demands.specs.Answers.{Answers}
 use Rattle.demands.specs.Delivers.{Carries, Delivered, Delivers, Reached, areaNamed}
 use Rattle.demands.specs.Mover.{Mover, beginning}
-use Rattle.demands.specs.Possible.{flipOrder, stillOrder}
+use Rattle.demands.specs.Possible.{flipOrder, stillOrder, zeroOrder}
 use Rattle.demands.specs.OneStep.{MoveMade, ReadStep}
 use Rattle.demands.specs.Repeats.{quiet}
 use Rattle.demands.specs.Sends.{Sends}
+use Rattle.demands.specs.Shows.{Explains}
 use Rattle.demands.specs.Still.{CostsNothing}
 use Rattle.demands.specs.Useless.{Broken, alwaysPasses, beginsAtOne, inventsTotals, movesAll, movesNothing, otherArea, plansWithoutC, readsWholeLoad}
-use Rattle.demands.specs.Useless.{refusesAll, refusesNoPasses, refusesRuns, refusesSteps, stepsMoveNothing, takesIdentityAlone, toItself, toZero, wrapsSize, wrapsTotals}
+use Rattle.demands.specs.Useless.{readsWithoutZ, refusesAll, refusesNoPasses, refusesRuns, refusesSteps, showsAlways, showsGreatest, showsNothing, showsTurned, stepsMoveNothing, takesIdentityAlone, toItself, toZero, wrapsSize, wrapsTotals}
 use Rattle.demands.proofs.Answers.{ours-answers}
 use Rattle.demands.proofs.Delivers.{ours-delivers, own-passes}
 use Rattle.demands.proofs.Possible.{possible}
@@ -59,10 +67,10 @@ use Rattle.demands.proofs.Small.{moved-all, ended, run-promised, reads-
 -- ---- what the demands make of the small order
 
 module _ (M : Mover) (h : Sends M) where
-  must-take : M .judges small ≡ 0
+  must-take : M .judges small .number ≡ 0
   must-take = h small refl .gives-0 .1 (ours-sends small refl .gives-0 .0 small-taken)
 
-  must-send : M .judges small ≡ 0 → M .sends small 0 .address .0 ≡ 1
+  must-send : M .judges small .number ≡ 0 → M .sends small 0 .address .0 ≡ 1
   must-send e = ap (λ (t : Target). t .address .0) (h small refl .sends e 0 (omega arith)) ∙ sent-0
 
 module _ (M : Mover) (h : Delivers M) where
@@ -73,7 +81,7 @@ module _ (M : Mover) (h : Delivers M) where
   no-calls = carried .chains start start-fits [] (beginning M start) noCalls
 
   -- after a run of its 8 steps byte 0 of area 0 is at address 1 of the area named
-  must-deliver : M .judges small ≡ 0 → M .plans small .plan ≡ plan → M .total plan ≡ 8 → (w : Buffers) → M .run plan (beginning M start) 8 ended w
+  must-deliver : M .judges small .number ≡ 0 → M .plans small .plan ≡ plan → M .total plan ≡ 8 → (w : Buffers) → M .run plan (beginning M start) 8 ended w
       → getD (recordOf 1 (areaNamed (M .area plan) w) 1) 0 0 ≡ 1
   must-deliver judges plans all w p =
       ap (λ (y : ℕ). getD (recordOf 1 (areaNamed (M .area plan) w) y) 0 0) (sym sent-0)
@@ -141,6 +149,61 @@ no-refused-nothing h =
     let sound = ours-delivers .own (stillOrder bank) refl (possible .still-taken bank refl) .runs .can-run in
     true≢false (sym (sound→can-run made freshState sound (omega arith)) ∙ seven)
 
+-- ---- singular orders, on the small order's bank
+
+-- zero rows: every address is sent to 0
+abbrev zeros : Order
+zeros = zeroOrder bank
+
+zeros-three : judgement zeros ≡ 3
+unfolding inLimits
+zeros-three = ap (λ (v : Verdict). v .number) (possible .refused-3 bank refl)
+
+-- row 0 is 01, so that 1 is sent to 0 too; column 1 is 10, and so the matrix turned round sends 2 to 0
+abbrev turned : Order
+turned = record { geometry = bank; rows = 2 ∷ replicate (ROWS - 1) 0; complement = 0 }
+
+turned-three : judgement turned ≡ 3
+unfolding ones inLimits leastFrom least anyBelow parity applied kills singular strayRow strayComplement spareRow badForm formNumber judgement
+turned-three = refl
+
+-- row 0 is 001, of n + 1 bits
+abbrev strayed : Order
+strayed = record { geometry = bank; rows = 4 ∷ replicate (ROWS - 1) 0; complement = 0 }
+
+strayed-two : judgement strayed ≡ 2
+unfolding inLimits leastFrom least anyBelow strayRow badForm formNumber judgement
+strayed-two = refl
+
+no-greatest : Explains showsGreatest → ⊥
+unfolding ones leastFrom least anyBelow parity applied target kills
+no-greatest h =
+    let three = number-order zeros 0 (λ e. omega (arith, zeros-three, e)) ∙ zeros-three in
+    let shown = h .forwards zeros 0 .with-3 three in
+    (rw three at shown) .smallest 1 (omega arith) (omega arith) refl
+
+no-turned : Explains showsTurned → ⊥
+unfolding ones leastFrom least anyBelow firstOf parity unitVectors columns applied target kernel kills
+no-turned h =
+    let shown = h .judging turned .with-3 turned-three in
+    (rw turned-three at shown) .smallest 1 (omega arith) (omega arith) refl
+
+no-always : Explains showsAlways → ⊥
+unfolding ones leastFrom least anyBelow firstOf parity applied kernel kills zWith
+no-always h = let none = h .judging strayed .else-0 (λ e. omega (arith, strayed-two, e)) in omega (arith, none)
+
+-- the text of zero rows is read as 3
+no-silent-text : Explains readsWithoutZ → ⊥
+unfolding orderText inLimits
+no-silent-text h =
+    let gives = ours-sends zeros refl .gives-3 .0 zeros-three in
+    let form : badForm zeros ≡ false = gives .0 .1 in
+    let rest = rowLines 2 (matrixOf zeros) ++ line (bits 2 0) in
+    let whole : Whole (orderText zeros) bank zeros = record { geometry = refl; room = refl; form = form; is = refl } in
+    let begins : Begins (orderText zeros) bank = record { n-short = omega arith; b-short = omega arith; d-short = omega arith; m-short = omega arith; r-short = omega arith; rest = rest; is = refl } in
+    let read = read-singular bank zeros begins refl whole zeros-three in
+    omega (arith, h .read-3 (orderText zeros) 3 noOrder 0 (zWith 3 zeros, read, refl) refl bank zeros (begins, refl) whole .nonzero)
+
 -- ---- each of them
 
 pub broken : Broken
@@ -184,6 +247,11 @@ broken =
       refusesRuns-fails = λ h. omega (arith, no-calls refusesRuns h .runs-on 8 (record { number = 7; count = 0; state = freshState }) start (refl, refl));
       plansWithoutC-fails = no-dropped-complement;
       alwaysPasses-fails = no-pass-for-nothing;
+      showsNothing-fails = λ h. omega (arith, h .planning zeros .with-3 zeros-three .nonzero);
+      showsGreatest-fails = no-greatest;
+      showsTurned-fails = no-turned;
+      showsAlways-fails = no-always;
+      readsWithoutZ-fails = no-silent-text;
       refusesNoPasses-fails = no-refused-nothing;
       promisesTooMuch-fails = λ h. h .step-some plan (begun start) 0 .2;
       promisesNothing-fails = λ h.

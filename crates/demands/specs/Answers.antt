@@ -19,24 +19,23 @@ use Rattle.listing.specs.Listing.{listing}
 use Rattle.reading.specs.OrderText.{TEXT}
 use Rattle.reading.specs.Reading.{noOrder}
 use Rattle.demands.specs.Mover.{Mover}
-use Rattle.demands.specs.Numbers.{Numbers}
-
--- a number that refuses: of every call but a step, each but 0
-abbrev pub Refusal : ℕ → Type 0
-Refusal k = k ≡ 0 → ⊥
+use Rattle.demands.specs.Numbers.{Numbers, Refusal}
+use Rattle.demands.specs.Shows.{Explains}
 
 pub record Answers (M : Mover) : Type 0 where
   -- each number of a step, a run and a text exactly when it is due
   pub numbered : Numbers M
+  -- with 3, in every call that gives it, the z that shows why; 0 with every other number
+  pub explained : Explains M
   -- asked forwards: address 0 with a refusal
   pub target-refused : (order : Order) (x : ℕ) → Refusal (M .sends order x .number) → M .sends order x .address .0 ≡ 0
-  -- asked backwards: the number alone with a refusal, and one answer
+  -- asked backwards: no source with a refusal, and one answer
   pub source-refused : (order : Order) (y : ℕ) (a : Source) → M .finds order y a → Refusal (meaningOf a .number) → meaningOf a .sources ≡ []
   pub source-some : (order : Order) (y : ℕ) → (a : Source) × M .finds order y a
   pub source-one : (order : Order) (y : ℕ) (a b : Source) → M .finds order y a → M .finds order y b → a ≡ b
   -- planning: the number of the judgement, and the empty plan with a refusal
-  pub plan-number : (order : Order) → M .plans order .number ≡ M .judges order
-  pub plan-refused : (order : Order) → Refusal (M .judges order) → M .plans order .plan ≡ emptyPlan
+  pub plan-number : (order : Order) → M .plans order .number ≡ M .judges order .number
+  pub plan-refused : (order : Order) → Refusal (M .judges order .number) → M .plans order .plan ≡ emptyPlan
   -- the empty plan can't run: every step and every run of it is 7
   pub empty-step : (m : Moment) (k : ℕ) (r : Stepped) (w : Buffers) → M .step emptyPlan m k r w → numberOf r ≡ 7
   pub empty-run : (m : Moment) (q : ℕ) (r : Ran) (w : Buffers) → M .run emptyPlan m q r w → r .number ≡ 7
@@ -60,15 +59,15 @@ pub record Answers (M : Mover) : Type 0 where
   pub run-one : (plan : Plan) (m : Moment) (q : ℕ) (r r′ : Ran) (w w′ : Buffers)
       → M .run plan m q r w → M .run plan m q r′ w′ → (r ≡ r′) × (w ≡ w′)
   -- reading a text: an order zero everywhere with a refusal, and one outcome
-  pub read-refused : (text : List ℕ) (k : ℕ) (order : Order) → M .reads text k order → Refusal k → order ≡ noOrder
-  pub read-some : (text : List ℕ) → (k : ℕ) × (order : Order) × M .reads text k order
-  pub read-one : (text : List ℕ) (k k′ : ℕ) (order order′ : Order)
-      → M .reads text k order → M .reads text k′ order′ → (k ≡ k′) × (order ≡ order′)
+  pub read-refused : (text : List ℕ) (k : ℕ) (order : Order) (z : ℕ) → M .reads text k order z → Refusal k → order ≡ noOrder
+  pub read-some : (text : List ℕ) → (k : ℕ) × (order : Order) × (z : ℕ) × M .reads text k order z
+  pub read-one : (text : List ℕ) (k k′ : ℕ) (order order′ : Order) (z z′ : ℕ)
+      → M .reads text k order z → M .reads text k′ order′ z′ → (k ≡ k′) × (order ≡ order′) × (z ≡ z′)
   -- an input of which no more than a text's room is held: what those first bytes are read as, all of it is read as
-  pub read-first : (input : List ℕ) (k : ℕ) (order : Order) → M .reads (take TEXT input) k order → M .reads input k order
+  pub read-first : (input : List ℕ) (k : ℕ) (order : Order) (z : ℕ) → M .reads (take TEXT input) k order z → M .reads input k order z
   -- writing a listing: the whole of it, and what the room held beyond it; or no byte, where there is no room for it
   pub listing-whole : (plan : Plan) (room : List ℕ) → length (listing plan) ≤ length room
       → (M .lists plan room ≡ length (listing plan)) × (M .leaves plan room ≡ listing plan ++ drop (length (listing plan)) room)
   pub listing-none : (plan : Plan) (room : List ℕ) → length room < length (listing plan) → (M .lists plan room ≡ 0) × (M .leaves plan room ≡ room)
   -- a text that is taken has something to list
-  pub listing-some : (text : List ℕ) (order : Order) → M .reads text 0 order → 0 < length (listing (M .plans order .plan))
+  pub listing-some : (text : List ℕ) (order : Order) (z : ℕ) → M .reads text 0 order z → 0 < length (listing (M .plans order .plan))

@@ -92,7 +92,7 @@ pub record OwnPlan (M : Mover) (order : Order) : Type 0 where
 -- ---- the demand
 
 pub record Delivers (M : Mover) : Type 0 where
-  pub own : (order : Order) → length (order .rows) ≡ ROWS → M .judges order ≡ 0 → OwnPlan M order
+  pub own : (order : Order) → length (order .rows) ≡ ROWS → M .judges order .number ≡ 0 → OwnPlan M order
   pub carries : (plan : Plan) → Runnable plan → Carries M plan
   -- the latest step again at will
   pub repeats : Repeats M

@@ -3,8 +3,9 @@ pub mod Mover
 pub mod Ours
 pub mod Chain
 pub mod Numbers
-pub mod Answers
 pub mod Sends
+pub mod Shows
+pub mod Answers
 pub mod OneStep
 pub mod Repeats
 pub mod Delivers

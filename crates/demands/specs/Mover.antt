@@ -2,6 +2,7 @@
 use mathlib.Core.List.{List}
 use Prim.Native.Nat.{ℕ}
 use Rattle.order.specs.declared.Order.{Order}
+use Rattle.order.specs.declared.Verdict.{Verdict}
 use Rattle.order.specs.declared.address.Target.{Target}
 use Rattle.order.specs.declared.address.Source.{Source}
 use Rattle.planning.specs.declared.Plan.{Plan}
@@ -22,11 +23,11 @@ RunRule = Plan → Moment → ℕ → Ran → Buffers → Type 0
 
 -- a call that is promised by an equation is a function of what it is given; one that is promised by a meaning is a rule
 pub record Mover : Type 1 where
-  -- the number of an order; where it sends an address, and which answers it may give for one backwards
-  pub judges : Order → ℕ
+  -- the number and z of an order; where it sends an address, and which answers it may give for one backwards
+  pub judges : Order → Verdict
   pub sends : Order → ℕ → Target
   pub finds : Order → ℕ → Source → Type 0
-  -- the number and the plan for an order; a plan's total, and the area where its result lies
+  -- the number, the plan and z for an order; a plan's total, and the area where its result lies
   pub plans : Order → Planned
   pub total : Plan → ℕ
   pub area : Plan → ℕ
@@ -34,8 +35,8 @@ pub record Mover : Type 1 where
   pub fresh : State
   pub step : StepRule
   pub run : RunRule
-  -- which number and order a text may give
-  pub reads : List ℕ → ℕ → Order → Type 0
+  -- which number, order and z a text may give
+  pub reads : List ℕ → ℕ → Order → ℕ → Type 0
   -- how many bytes of a plan's listing are written into a room, and what the room then holds
   pub lists : Plan → List ℕ → ℕ
   pub leaves : Plan → List ℕ → List ℕ

@@ -21,6 +21,10 @@ use Rattle.reading.specs.OrderText.{orderText}
 use Rattle.reading.specs.Reading.{Begins, Whole}
 use Rattle.demands.specs.Mover.{Mover}
 
+-- a number that refuses: of every call but a step, each but 0
+abbrev pub Refusal : ℕ → Type 0
+Refusal k = k ≡ 0 → ⊥
+
 -- the buffers are of the lengths that the plan's bank has
 abbrev pub fitting : Plan → Moment → Bool
 fitting plan m = buffersFit (plan .geometry) (m .buffers)
@@ -63,13 +67,13 @@ Unreadable text = ((g : Geometry) → Begins text g → ⊥) ⊎ ((g : Geometry)
 pub record TextNumbers (M : Mover) (text : List ℕ) (k : ℕ) : Type 0 where
   pub gives-8 : (k ≡ 8) ↔ Unreadable text
   pub gives-1 : (k ≡ 1) ↔ ((g : Geometry) × Outside text g)
-  pub gives-3 : (k ≡ 3) ↔ ((g : Geometry) × (order : Order) × Inside text g × Whole text g order × (M .judges order ≡ 3))
-  pub gives-0 : (k ≡ 0) ↔ ((g : Geometry) × (order : Order) × Inside text g × Whole text g order × (M .judges order ≡ 0))
+  pub gives-3 : (k ≡ 3) ↔ ((g : Geometry) × (order : Order) × Inside text g × Whole text g order × (M .judges order .number ≡ 3))
+  pub gives-0 : (k ≡ 0) ↔ ((g : Geometry) × (order : Order) × Inside text g × Whole text g order × (M .judges order .number ≡ 0))
 
 pub record Numbers (M : Mover) : Type 0 where
   pub of-step : (plan : Plan) (m : Moment) (k : ℕ) (r : Stepped) (w : Buffers) → M .step plan m k r w → StepNumbers M plan m k r
   pub of-run : (plan : Plan) (m : Moment) (q : ℕ) (r : Ran) (w : Buffers) → M .run plan m q r w → RunNumbers plan m r
-  pub of-text : (text : List ℕ) (k : ℕ) (order : Order) → M .reads text k order → TextNumbers M text k
+  pub of-text : (text : List ℕ) (k : ℕ) (order : Order) (z : ℕ) → M .reads text k order z → TextNumbers M text k
   -- the text of an order that is taken gives that order, and no other text does
-  pub reads-own : (order : Order) → length (order .rows) ≡ ROWS → M .judges order ≡ 0 → M .reads (orderText order) 0 order
-  pub only-own : (text : List ℕ) (order : Order) → M .reads text 0 order → text ≡ orderText order
+  pub reads-own : (order : Order) → length (order .rows) ≡ ROWS → M .judges order .number ≡ 0 → M .reads (orderText order) 0 order 0
+  pub only-own : (text : List ℕ) (order : Order) (z : ℕ) → M .reads text 0 order z → text ≡ orderText order

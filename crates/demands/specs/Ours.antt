@@ -1,6 +1,6 @@
 -- Which mover is ours? Each field is the definition that the call's contract cites. Assumes nothing.
 use mathlib.Core.Path.{_≡_}
-use Rattle.order.specs.Order.{judgement}
+use Rattle.order.specs.Order.{verdict}
 use Rattle.order.specs.Address.{targetOf, meaningOf, foundFor}
 use Rattle.planning.specs.State.{freshState}
 use Rattle.plan.specs.Answer.{plannedFor}
@@ -13,7 +13,7 @@ use Rattle.demands.specs.Mover.{Mover}
 abbrev pub ours : Mover
 ours =
     record {
-      judges = judgement;
+      judges = verdict;
       sends = targetOf;
       finds = λ order y answer. meaningOf answer ≡ foundFor order y;
       plans = plannedFor;

@@ -13,20 +13,20 @@ use Rattle.demands.specs.Still.{StillOrder}
 
 pub record PassCounts (M : Mover) : Type 0 where
   -- the plan of an order that is taken performs it
-  pub performs : (order : Order) → length (order .rows) ≡ ROWS → M .judges order ≡ 0 → Performs order (M .plans order .plan)
+  pub performs : (order : Order) → length (order .rows) ≡ ROWS → M .judges order .number ≡ 0 → Performs order (M .plans order .plan)
   -- it has no pass exactly where A is the identity and c is 0
-  pub none : (order : Order) → length (order .rows) ≡ ROWS → M .judges order ≡ 0 → (M .plans order .plan .count ≡ 0) ↔ StillOrder order
+  pub none : (order : Order) → length (order .rows) ≡ ROWS → M .judges order .number ≡ 0 → (M .plans order .plan .count ≡ 0) ↔ StillOrder order
   -- and that is where no record need move: every address is sent to itself
-  pub none-moves : (order : Order) → length (order .rows) ≡ ROWS → M .judges order ≡ 0
+  pub none-moves : (order : Order) → length (order .rows) ≡ ROWS → M .judges order .number ≡ 0
       → StillOrder order ↔ ((x : ℕ) → AddressOf order x → M .sends order x .address .0 ≡ x)
   -- for every other order it has as many passes as rounds, rank φ/(m - b) rounded up, and one more
-  pub exact : (order : Order) → length (order .rows) ≡ ROWS → M .judges order ≡ 0 → (StillOrder order → ⊥)
+  pub exact : (order : Order) → length (order .rows) ≡ ROWS → M .judges order .number ≡ 0 → (StillOrder order → ⊥)
       → M .plans order .plan .count ≡ roundsFor order + 1
   -- whoever made it, a plan of no passes performs no other order either
-  pub none-others : (order : Order) → length (order .rows) ≡ ROWS → M .judges order ≡ 0 → (plan : Plan) → Performs order plan
+  pub none-others : (order : Order) → length (order .rows) ≡ ROWS → M .judges order .number ≡ 0 → (plan : Plan) → Performs order plan
       → plan .count ≡ 0 → StillOrder order
   -- no plan that performs an order has fewer passes than it has rounds, whoever made it
   pub at-least : (order : Order) (plan : Plan) → Performs order plan → roundsFor order ≤ plan .count
   -- the mover's own plan is never more than one pass longer than another that performs the order
-  pub near-best : (order : Order) → length (order .rows) ≡ ROWS → M .judges order ≡ 0 → (plan : Plan) → Performs order plan
+  pub near-best : (order : Order) → length (order .rows) ≡ ROWS → M .judges order .number ≡ 0 → (plan : Plan) → Performs order plan
       → M .plans order .plan .count ≤ plan .count + 1

@@ -1,4 +1,5 @@
--- Do the demands speak of anything? At every geometry inside the limits an order that moves something is taken, and one that moves nothing;
+-- Do the demands speak of anything? At every geometry inside the limits an order that moves something is taken, and one that moves nothing,
+-- and one is refused by 3, with its z;
 -- and every mover that has demands 1 and 3 comes to the end of each order that it takes.
 -- Assumes nothing.
 use mathlib.Core.Path.{_≡_}
@@ -34,6 +35,10 @@ flipOrder g = xorOrder g 1
 -- x to x
 abbrev pub stillOrder : Geometry → Order
 stillOrder g = xorOrder g 0
+
+-- every x to 0
+abbrev pub zeroOrder : Geometry → Order
+zeroOrder g = record { geometry = g; rows = replicate ROWS 0; complement = 0 }
 
 -- ---- a chain with repeats, refused calls and runs in it
 
@@ -73,10 +78,11 @@ pub record Comes (M : Mover) (plan : Plan) (v : Buffers) (these : List Call) : T
   pub there : end .state .next .0 ≡ M .total plan
 
 pub record Possible : Type 1 where
-  pub taken : (g : Geometry) → inLimits g ≡ true → ours .judges (flipOrder g) ≡ 0
+  pub taken : (g : Geometry) → inLimits g ≡ true → ours .judges (flipOrder g) .number ≡ 0
   pub moves : (g : Geometry) → inLimits g ≡ true → sentTo (flipOrder g) 0 ≡ 1
-  pub still-taken : (g : Geometry) → inLimits g ≡ true → ours .judges (stillOrder g) ≡ 0
+  pub still-taken : (g : Geometry) → inLimits g ≡ true → ours .judges (stillOrder g) .number ≡ 0
   pub still : (g : Geometry) → StillOrder (stillOrder g)
-  pub comes : (M : Mover) → Answers M → Delivers M → (order : Order) → length (order .rows) ≡ ROWS → M .judges order ≡ 0
+  pub refused-3 : (g : Geometry) → inLimits g ≡ true → ours .judges (zeroOrder g) ≡ record { number = 3; z = record { 0 = 1 } }
+  pub comes : (M : Mover) → Answers M → Delivers M → (order : Order) → length (order .rows) ≡ ROWS → M .judges order .number ≡ 0
       → (v : Buffers) → buffersFit (order .geometry) v ≡ true → (k : ℕ) → k ≤ M .total (M .plans order .plan) → (more : ℕ → ℕ)
       → Comes M (M .plans order .plan) v (busyCalls (M .total (M .plans order .plan)) k more)

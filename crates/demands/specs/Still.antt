@@ -59,4 +59,4 @@ pub record NoSteps (M : Mover) (order : Order) (plan : Plan) : Type 0 where
 
 -- so it is for each such order that is taken
 abbrev pub CostsNothing : Mover → Type 0
-CostsNothing M = (order : Order) → length (order .rows) ≡ ROWS → M .judges order ≡ 0 → StillOrder order → NoSteps M order (M .plans order .plan)
+CostsNothing M = (order : Order) → length (order .rows) ≡ ROWS → M .judges order .number ≡ 0 → StillOrder order → NoSteps M order (M .plans order .plan)

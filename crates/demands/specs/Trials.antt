@@ -14,13 +14,14 @@ use Rattle.planning.specs.Stored.{routeOf}
 use Rattle.plan.specs.declared.make.Planned.{Planned}
 use Rattle.demands.specs.Ours.{ours}
 
--- a trial: an order and an address; the number and the target that are given back; how many passes and steps, the area of the
+-- a trial: an order and an address; the number, the target and z that are given back; how many passes and steps, the area of the
 -- result, and the passes, if listed
 pub record Trial : Type 0 where
   pub order : Order
   pub address : ℕ
   pub number : ℕ
   pub target : ℕ
+  pub z : ℕ
   pub passes : ℕ
   pub steps : ℕ
   pub area : ℕ
@@ -57,11 +58,11 @@ asPlanned (suc k) t plan = sameNumbers (held plan) (replicate (6 + PASSES * ROWS
 
 -- what a planning call answers
 abbrev pub planned : Trial → Planned → Bool
-planned t answer = eqb (answer .number) (t .number) && asPlanned (t .number) t (answer .plan)
+planned t answer = eqb (answer .number) (t .number) && eqb (answer .z .0) (t .z) && asPlanned (t .number) t (answer .plan)
 
 -- what an address call answers
 abbrev pub sends : Trial → Target → Bool
-sends t answer = eqb (answer .number) (t .number) && eqb (answer .address .0) (t .target)
+sends t answer = eqb (answer .number) (t .number) && eqb (answer .address .0) (t .target) && eqb (answer .z .0) (t .z)
 
 abbrev pub right : Trial → Bool
 right t = sends t (ours .sends (t .order) (t .address)) && planned t (ours .plans (t .order))
@@ -75,10 +76,10 @@ abbrev four : List ℕ → ℕ → Order
 four rows c = order 4 1 1 2 8 rows c
 
 abbrev sent : Order → ℕ → ℕ → ℕ → ℕ → ℕ → List Pass → Trial
-sent o x y passes steps area listed = record { order = o; address = x; number = 0; target = y; passes = passes; steps = steps; area = area; listed = listed }
+sent o x y passes steps area listed = record { order = o; address = x; number = 0; target = y; z = 0; passes = passes; steps = steps; area = area; listed = listed }
 
-abbrev refused : Order → ℕ → Trial
-refused o k = record { order = o; address = 0; number = k; target = 0; passes = 0; steps = 0; area = 0; listed = [] }
+abbrev refused : Order → ℕ → ℕ → Trial
+refused o k z = record { order = o; address = 0; number = k; target = 0; z = z; passes = 0; steps = 0; area = 0; listed = [] }
 
 abbrev pass : List ℕ → ℕ → Pass
 pass rows c = record { rows = rows; complement = c }
@@ -98,5 +99,5 @@ trials =
     sent (four reversal 0) 1 8 3 24 1 reversalPasses ∷ sent (four reversal 0) 3 12 3 24 1 [] ∷ sent (four reversal 0) 6 6 3 24 1 []
     ∷ sent (four unmoved 15) 5 10 1 8 1 (pass unmoved 15 ∷ []) ∷ sent (four (3 ∷ 6 ∷ 12 ∷ 8 ∷ []) 0) 5 7 1 8 1 []
     ∷ sent (four (4 ∷ 8 ∷ 1 ∷ 2 ∷ []) 0) 1 4 3 24 1 [] ∷ sent (order 2 0 0 1 8 (2 ∷ 1 ∷ []) 0) 1 2 2 16 0 []
-    ∷ refused (order 2 0 0 1 8 (3 ∷ 3 ∷ []) 0) 3 ∷ refused (order 2 0 0 1 8 (0 ∷ 0 ∷ []) 0) 3
-    ∷ refused (order 4 2 0 2 8 reversal 0) 1 ∷ refused (order 4 1 1 4 8 reversal 0) 1 ∷ refused (four (16 ∷ 2 ∷ 4 ∷ 8 ∷ []) 0) 2 ∷ []
+    ∷ refused (order 2 0 0 1 8 (3 ∷ 3 ∷ []) 0) 3 3 ∷ refused (order 2 0 0 1 8 (0 ∷ 0 ∷ []) 0) 3 1
+    ∷ refused (order 4 2 0 2 8 reversal 0) 1 0 ∷ refused (order 4 1 1 4 8 reversal 0) 1 0 ∷ refused (four (16 ∷ 2 ∷ 4 ∷ 8 ∷ []) 0) 2 0 ∷ []

@@ -4,14 +4,16 @@ use mathlib.Core.Bool.{true, cond, _&&_}
 use mathlib.Core.List.{List}
 use Prim.Native.Nat.{ℕ, _+_, _-_, _%_, _^_}
 use lib.Dec.{eqb}
-use Rattle.algebra.specs.Matrix.{isIdentity}
+use Rattle.algebra.specs.Matrix.{columns, isIdentity, kernel, kills}
+use Rattle.algebra.specs.Search.{least}
 use Rattle.algebra.specs.Vector.{WORD}
 use Rattle.bank.specs.Checks.{handed}
 use Rattle.bank.specs.Geometry.{inLimits}
 use Rattle.order.specs.declared.Order.{Order}
+use Rattle.order.specs.declared.Verdict.{Verdict}
 use Rattle.order.specs.declared.address.Target.{Target}
 use Rattle.order.specs.declared.address.Source.the-variants.{Refused as NoSource}
-use Rattle.order.specs.Order.{judgement, matrixOf}
+use Rattle.order.specs.Order.{judgement, matrixOf, verdict, withZ, zWith}
 use Rattle.order.specs.Address.{questionNumber, targetOf}
 use Rattle.planning.specs.declared.Plan.{Plan}
 use Rattle.planning.specs.declared.state.State.{State}
@@ -35,11 +37,12 @@ use Rattle.demands.specs.Ours.{ours}
 use Rattle.demands.specs.Answers.{Answers}
 use Rattle.demands.specs.Sends.{Sends}
 use Rattle.demands.specs.Delivers.{Delivers}
+use Rattle.demands.specs.Shows.{Explains}
 use Rattle.demands.specs.Still.{CostsNothing}
 
 -- ours but for these; a question backwards is answered as ours is
-abbrev altered : (Order → ℕ) → (Order → ℕ → Target) → (Order → Planned) → (Plan → ℕ) → (Plan → ℕ) → State → StepRule → RunRule
-    → (List ℕ → ℕ → Order → Type 0) → (Plan → List ℕ → ℕ) → (Plan → List ℕ → List ℕ) → Mover
+abbrev altered : (Order → Verdict) → (Order → ℕ → Target) → (Order → Planned) → (Plan → ℕ) → (Plan → ℕ) → State → StepRule → RunRule
+    → (List ℕ → ℕ → Order → ℕ → Type 0) → (Plan → List ℕ → ℕ) → (Plan → List ℕ → List ℕ) → Mover
 altered judges sends plans total area fresh step run reads lists leaves =
     record {
       judges = judges;
@@ -57,20 +60,20 @@ altered judges sends plans total area fresh step run reads lists leaves =
     }
 
 -- ours with other answers on orders and addresses
-abbrev answering : (Order → ℕ) → (Order → ℕ → Target) → Mover
+abbrev answering : (Order → Verdict) → (Order → ℕ → Target) → Mover
 answering judges sends = altered judges sends plannedFor totalSteps resultArea freshState StepPromise RunPromise Reads written roomAfter
 
 -- ours with other plans
 abbrev planning : (Order → Planned) → Mover
-planning plans = altered judgement targetOf plans totalSteps resultArea freshState StepPromise RunPromise Reads written roomAfter
+planning plans = altered verdict targetOf plans totalSteps resultArea freshState StepPromise RunPromise Reads written roomAfter
 
 -- ours with other totals, areas, starts, steps and runs
 abbrev stepping : (Plan → ℕ) → (Plan → ℕ) → State → StepRule → RunRule → Mover
-stepping total area fresh step run = altered judgement targetOf plannedFor total area fresh step run Reads written roomAfter
+stepping total area fresh step run = altered verdict targetOf plannedFor total area fresh step run Reads written roomAfter
 
 -- ours with other readings and listings
-abbrev writing : (List ℕ → ℕ → Order → Type 0) → (Plan → List ℕ → ℕ) → (Plan → List ℕ → List ℕ) → Mover
-writing reads lists leaves = altered judgement targetOf plannedFor totalSteps resultArea freshState StepPromise RunPromise reads lists leaves
+abbrev writing : (List ℕ → ℕ → Order → ℕ → Type 0) → (Plan → List ℕ → ℕ) → (Plan → List ℕ → List ℕ) → Mover
+writing reads lists leaves = altered verdict targetOf plannedFor totalSteps resultArea freshState StepPromise RunPromise reads lists leaves
 
 -- ---- the six of the rules
 
@@ -78,26 +81,28 @@ writing reads lists leaves = altered judgement targetOf plannedFor totalSteps re
 abbrev pub refusesAll : Mover
 refusesAll =
     record {
-      judges = λ order. 1;
-      sends = λ order x. record { number = 1; address = record { 0 = 0 } };
-      finds = λ order y a. a ≡ NoSource 1;
-      plans = λ order. record { number = 1; plan = emptyPlan };
+      judges = λ order. record { number = 1; z = record { 0 = 0 } };
+      sends = λ order x. record { number = 1; address = record { 0 = 0 }; z = record { 0 = 0 } };
+      finds = λ order y a. a ≡ NoSource 1 (record { 0 = 0 });
+      plans = λ order. record { number = 1; plan = emptyPlan; z = record { 0 = 0 } };
       total = totalSteps;
       area = resultArea;
       fresh = freshState;
       step = λ plan m k r w. (r ≡ Refused 7 (m .state)) × (w ≡ m .buffers);
       run = λ plan m q r w. (r ≡ record { number = 7; count = 0; state = m .state }) × (w ≡ m .buffers);
-      reads = λ text k order. (k ≡ 8) × (order ≡ noOrder);
+      reads = λ text k order z. (k ≡ 8) × (order ≡ noOrder) × (z ≡ 0);
       lists = λ plan room. 0;
       leaves = λ plan room. room;
     }
 
 -- it sends every x to 0, or x to x
 abbrev pub toZero : Mover
-toZero = answering judgement (λ order x. record { number = questionNumber order x; address = record { 0 = 0 } })
+toZero = answering verdict (λ order x. record { number = questionNumber order x; address = record { 0 = 0 }; z = targetOf order x .z })
 
 abbrev pub toItself : Mover
-toItself = answering judgement (λ order x. record { number = questionNumber order x; address = record { 0 = handed (questionNumber order x) x 0 } })
+toItself =
+    answering verdict
+    (λ order x. record { number = questionNumber order x; address = record { 0 = handed (questionNumber order x) x 0 }; z = targetOf order x .z })
 
 -- it answers as ours does, and moves nothing
 abbrev idleStep : StepRule
@@ -156,7 +161,7 @@ readsWholeLoad = stepping totalSteps resultArea freshState loadStep RunPromise
 abbrev pub takesIdentityAlone : Mover
 takesIdentityAlone =
     answering
-    (λ order. handed (judgement order) (cond (isIdentity (order .geometry .n) (matrixOf order)) 0 3) (judgement order))
+    (λ order. withZ (handed (judgement order) (cond (isIdentity (order .geometry .n) (matrixOf order)) 0 3) (judgement order)) order)
     targetOf
 
 -- it refuses a repeat by 5
@@ -178,7 +183,7 @@ refusesRuns =
 
 -- it works out 2^n, or a total, in the bits of a word: the bits above are lost
 abbrev pub wrapsSize : Mover
-wrapsSize = answering (λ order. cond (inLimits (order .geometry) && eqb (order .geometry .n) WORD) 2 (judgement order)) targetOf
+wrapsSize = answering (λ order. withZ (cond (inLimits (order .geometry) && eqb (order .geometry .n) WORD) 2 (judgement order)) order) targetOf
 
 abbrev pub wrapsTotals : Mover
 wrapsTotals = stepping (λ plan. totalSteps plan % 2 ^ WORD) resultArea freshState StepPromise RunPromise
@@ -189,7 +194,7 @@ alwaysPasses =
     planning
     (λ order. let g = order .geometry in
     let made = planOf (record { geometry = g; passes = passesMade g (matrixOf order) (order .complement) }) in
-    record { number = judgement order; plan = handed (judgement order) made emptyPlan })
+    record { number = judgement order; plan = handed (judgement order) made emptyPlan; z = plannedFor order .z })
 
 -- it plans as if c were 0, and so makes no pass for the identity with any c
 abbrev pub plansWithoutC : Mover
@@ -204,7 +209,7 @@ refusesNoPasses = stepping totalSteps resultArea freshState passStep RunPromise
 
 -- it reads no text, or lists no plan
 abbrev pub readsNothing : Mover
-readsNothing = writing (λ text k order. (k ≡ 8) × (order ≡ noOrder)) written roomAfter
+readsNothing = writing (λ text k order z. (k ≡ 8) × (order ≡ noOrder) × (z ≡ 0)) written roomAfter
 
 abbrev pub listsNothing : Mover
 listsNothing = writing Reads (λ plan room. 0) (λ plan room. room)
@@ -217,6 +222,41 @@ promisesTooMuch = stepping totalSteps resultArea freshState (λ plan m k r w. �
 
 abbrev pub promisesNothing : Mover
 promisesNothing = stepping totalSteps resultArea freshState (λ plan m k r w. Unit {0}) RunPromise
+
+-- ---- others that say 3, and don't show why
+
+-- it shows nothing: 0 with every number
+abbrev pub showsNothing : Mover
+showsNothing = planning (λ order. record { number = judgement order; plan = plannedFor order .plan; z = record { 0 = 0 } })
+
+-- it shows the greatest address that A sends to zero, and not the least
+abbrev greatest : ℕ → List ℕ → ℕ
+greatest n rows = 2 ^ n - 1 - least (λ k. kills rows (2 ^ n - 1 - k)) (2 ^ n)
+
+abbrev pub showsGreatest : Mover
+showsGreatest =
+    answering verdict
+    (λ order x. record {
+      number = questionNumber order x;
+      address = targetOf order x .address;
+      z = record { 0 = cond (eqb (questionNumber order x) 3) (greatest (order .geometry .n) (matrixOf order)) 0 };
+    })
+
+-- it shows what the matrix turned round sends to zero: rows for columns
+abbrev pub showsTurned : Mover
+showsTurned =
+    answering
+    (λ order. let n = order .geometry .n in
+    record { number = judgement order; z = record { 0 = cond (eqb (judgement order) 3) (kernel n (columns n (matrixOf order))) 0 } })
+    targetOf
+
+-- it shows the same z with every number
+abbrev pub showsAlways : Mover
+showsAlways = answering (λ order. record { number = judgement order; z = record { 0 = zWith 3 order } }) targetOf
+
+-- its reading shows nothing
+abbrev pub readsWithoutZ : Mover
+readsWithoutZ = writing (λ text k order z. (y : ℕ) × Reads text k order y × (z ≡ 0)) written roomAfter
 
 -- ---- which demand each breaks
 
@@ -239,6 +279,11 @@ pub record Broken : Type 0 where
   pub refusesRuns-fails : Delivers refusesRuns → ⊥
   pub plansWithoutC-fails : Delivers plansWithoutC → ⊥
   pub alwaysPasses-fails : CostsNothing alwaysPasses → ⊥
+  pub showsNothing-fails : Explains showsNothing → ⊥
+  pub showsGreatest-fails : Explains showsGreatest → ⊥
+  pub showsTurned-fails : Explains showsTurned → ⊥
+  pub showsAlways-fails : Explains showsAlways → ⊥
+  pub readsWithoutZ-fails : Explains readsWithoutZ → ⊥
   pub refusesNoPasses-fails : Answers refusesNoPasses → ⊥
   pub promisesTooMuch-fails : Answers promisesTooMuch → ⊥
   pub promisesNothing-fails : Answers promisesNothing → ⊥

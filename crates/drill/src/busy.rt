@@ -76,6 +76,14 @@ pub(crate) fn tell() {
     words(b"A mover that followed this order would do this:\n");
     let slots = targets(&rows);
     look_all(&slots);
-    byte(b"The proved mover answers: refused ", judge(order));
+    let judged = judge(order);
+    byte(b"The proved mover answers: refused ", judged.number);
+    number(b" ", judged.z.0);
     words(b"\nThe order is wrong, and no retry helps.\n");
+    number(b"The second number shows why: address ", judged.z.0);
+    words(b" goes to the slot of address 0, and no smaller address but 0 itself does.\n");
+    number(b"Every address x shares its slot with x xor ", judged.z.0);
+    words(
+        b", as above. Read both numbers to the site that sent the order: they can try it by hand.\n",
+    );
 }

@@ -7,6 +7,8 @@ mod busy; // busy.rt: the second lesson, the busy matrix
 mod round; // round.rt: the question round
 
 use libc::STDERR_FILENO;
+use listing::refusal::REFUSAL;
+use listing::refusal::write_refusal;
 use reading::read_order;
 use reading::text_room;
 
@@ -22,9 +24,9 @@ fn call() {
 fn question_round(text: &[u8]) {
     let read = read_order(text);
     if read.number != 0 {
-        error(b"refused ");
-        io::print_decimal(STDERR_FILENO, read.number as u64);
-        error(b"\n");
+        let mut line = [0u8; REFUSAL];
+        let k = write_refusal(read.number, read.z, &mut line);
+        error(&line[..k]);
         return;
     }
     round::hold(read.order);

@@ -8,6 +8,7 @@ use lib.Pow.{pow-mono}
 use Rattle.bank.specs.Limits.{ROWS}
 use Rattle.order.specs.declared.Order.{Order}
 use Rattle.order.specs.declared.address.Target.{Target}
+use Rattle.order.specs.Order.{zWith}
 use Rattle.order.specs.Address.{questionNumber, sentTo, targetOf}
 use Rattle.order.proofs.Asked.{settled, sent-below, target-number, target-address}
 use Rattle.text.specs.Lines.{decimal}
@@ -19,12 +20,13 @@ use Rattle.lessons.specs.Mark.{Marked, OneMark, refused, right, wrong}
 use Rattle.lessons.specs.declared.Mark.the-variants.{Right, Wrong, Refused}
 
 module _ (order : Order) (x : ℕ) (answer : List ℕ) (t : Target) (is : t ≡ targetOf order x) where
-  refused-by : (k : ℕ) → questionNumber order x ≡ k → (k ≡ 0 → ⊥) → Marked order x answer (Refused k)
+  refused-by : (k : ℕ) → questionNumber order x ≡ k → (k ≡ 0 → ⊥) → Marked order x answer (Refused k (record { 0 = zWith k order }))
   refused-by zero e f = absurd (f refl)
   refused-by (suc k) e f = refused k e
 
-  pub mark-refused : (t .number ≡ 0 → ⊥) → Marked order x answer (Refused (t .number))
-  mark-refused f = refused-by (t .number) (sym (target-number order x t is)) f
+  pub mark-refused : (t .number ≡ 0 → ⊥) → Marked order x answer (Refused (t .number) (t .z))
+  unfolding targetOf
+  mark-refused f = rw is (refused-by (questionNumber order x) refl (λ e. f (target-number order x t is ∙ e)))
 
   module _ (taken : t .number ≡ 0) where
     none : questionNumber order x ≡ 0
@@ -53,12 +55,12 @@ module _ (order : Order) (x : ℕ) (answer : List ℕ) (t : Target) (is : t ≡ 
 -- ---- one mark
 
 pub one-mark : OneMark
-one-mark order x answer (Refused k) (Refused j) (refused k′ e) (refused j′ f) = ap Refused (sym e ∙ f)
-one-mark order x answer (Refused k) Right (refused k′ e) (right f g) = absurd (omega (arith, e, f))
-one-mark order x answer (Refused k) Wrong (refused k′ e) (wrong f g) = absurd (omega (arith, e, f))
-one-mark order x answer Right (Refused j) (right e g) (refused j′ f) = absurd (omega (arith, e, f))
+one-mark order x answer (Refused k y) (Refused j z) (refused k′ e) (refused j′ f) = ap (λ (i : ℕ). Refused i (record { 0 = zWith i order })) (sym e ∙ f)
+one-mark order x answer (Refused k z) Right (refused k′ e) (right f g) = absurd (omega (arith, e, f))
+one-mark order x answer (Refused k z) Wrong (refused k′ e) (wrong f g) = absurd (omega (arith, e, f))
+one-mark order x answer Right (Refused j z) (right e g) (refused j′ f) = absurd (omega (arith, e, f))
 one-mark order x answer Right Right (right e g) (right f h) = refl
 one-mark order x answer Right Wrong (right e g) (wrong f h) = absurd (h g)
-one-mark order x answer Wrong (Refused j) (wrong e g) (refused j′ f) = absurd (omega (arith, e, f))
+one-mark order x answer Wrong (Refused j z) (wrong e g) (refused j′ f) = absurd (omega (arith, e, f))
 one-mark order x answer Wrong Right (wrong e g) (right f h) = absurd (g h)
 one-mark order x answer Wrong Wrong (wrong e g) (wrong f h) = refl

@@ -11,11 +11,11 @@ use order::address::target_of;
 use words::Word;
 use words::read_number;
 
-// Right, wrong, or a question that can't be asked of this order.
+// Right, wrong, or a question that can't be asked of this order: its number and z.
 pub enum Mark {
     Right,
     Wrong,
-    Refused(u8),
+    Refused(u8, Address),
 }
 
 // The least place from `from` on that holds the key, or the number of places where none does.
@@ -37,8 +37,9 @@ pub fn mark_of(order: Order, x: Address, answer: &[u8]) -> Mark
     ensures { λ r. ⌜ Marked order (x .0) (now (answer .entry)) r ⌝ }
 {
     let target = target_of(order, x);
+    let z = target.z;
     if target.number != 0 {
-        return Mark::Refused(target.number);
+        return Mark::Refused(target.number, z);
     }
     let Word::Number(said) = read_number(answer) else {
         return Mark::Wrong;

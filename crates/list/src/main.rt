@@ -4,16 +4,26 @@ use libc::STDIN_FILENO;
 use libc::STDOUT_FILENO;
 use listing::ROOM;
 use listing::list_plan;
+use listing::refusal::REFUSAL;
+use listing::refusal::write_refusal;
 use order::address::Source;
 use order::address::source_of;
 use plan::make::make_plan;
 use reading::read_order;
 use reading::text_room;
 
-fn refuse(number: u8) {
-    io::write_all(STDOUT_FILENO, b"refused ");
-    io::print_decimal(STDOUT_FILENO, number as u64);
-    io::write_all(STDOUT_FILENO, b"\n");
+fn refuse(number: u8, z: Address) {
+    let mut line = [0u8; REFUSAL];
+    let k = write_refusal(number, z, &mut line);
+    io::write_all(STDOUT_FILENO, &line[..k]);
+}
+
+// An answer backwards that is a refusal.
+fn refuse_source(answer: Source) {
+    let Source::Refused(number, z) = answer else {
+        return;
+    };
+    refuse(number, z);
 }
 
 fn main() {
@@ -21,12 +31,13 @@ fn main() {
     let n = io::read_full(STDIN_FILENO, &mut buffer);
     let read = read_order(&buffer[..n]);
     if read.number != 0 {
-        refuse(read.number);
+        refuse(read.number, read.z);
         return;
     }
     // An order that is taken answers backwards: this one comes from somewhere.
-    let Source::From(_) = source_of(read.order, Address(0)) else {
-        refuse(3);
+    let answer = source_of(read.order, Address(0));
+    let Source::From(_) = answer else {
+        refuse_source(answer);
         return;
     };
     let planned = make_plan(read.order);

@@ -1,3 +1,4 @@
 pub mod Put
+pub mod Refused
 pub mod Digits
 pub mod Passes

@@ -1,11 +1,12 @@
 // Listings of plans are written, on slices.
 mod write; // write.rt: words, numbers and rows into a room
+pub mod refusal; // refusal.rt: the line for an order that is refused
 
 ghost use mathlib.Core.Path.{_≡_};
 ghost use mathlib.Core.Bool.{true};
 ghost use mathlib.Core.List.{_++_};
 ghost use Prim.Native.Nat.{_+_, _<_, _≤_};
-ghost use lib.ListN.{length, drop};
+ghost use lib.ListN.{length, take, drop};
 ghost use Rattle.bank.specs.Limits.{ROWS, PASSES};
 ghost use Rattle.planning.specs.Running.{sound};
 ghost use Rattle.listing.specs.Listing.{headLines, tailLines, listing, written, roomAfter};
@@ -132,7 +133,7 @@ pub fn write_listing(plan: Plan, room: &mut [u8]) -> usize
 
 // The whole listing of any plan, and how many bytes it has.
 pub fn list_plan(plan: Plan, room: &mut [u8; ROOM]) -> usize
-    ensures { λ r. ⌜ (r ≡ length (listing plan)) × (r ≤ length (now (room .exit)))
+    ensures { λ r. ⌜ (r ≡ length (listing plan)) × (r ≤ length (now (room .exit))) × (r ≡ length (take r (now (room .exit))))
         × (now (room .exit) ≡ listing plan ++ drop (length (listing plan)) (now (room .entry))) ⌝ }
 {
     write_listing(plan, room)

@@ -5,7 +5,7 @@ ghost use lib.Bits.{bitXor};
 ghost use lib.Count.{trailingZeros};
 ghost use Rattle.bank.specs.Limits.{ROWS};
 ghost use Rattle.algebra.specs.Vector.{WORD};
-ghost use Rattle.algebra.specs.Elimination.{rest, used, noEntries, grown, built};
+ghost use Rattle.algebra.specs.Elimination.{rest, used, noEntries, withEntry, grown, built};
 ghost use Rattle.matrix.specs.Echelon.{echelonOf};
 use crate::vector::bit_of;
 use crate::vector::power;
@@ -67,17 +67,11 @@ pub fn lowest(x: u32) -> u32
     u32::trailing_zeros(x)
 }
 
-// The entries after column j, too.
-pub fn grow(e: Echelon, j: u32, column: u32) -> Echelon
-    requires { ⌜ (e .count < ROWS) × (j < WORD) ⌝ }
-    ensures { λ r. ⌜ echelonOf r ≡ grown (echelonOf e) j column ⌝ }
+// One entry more: what is left of a column, its lowest set bit, and the columns of which it is the sum.
+pub(crate) fn with_entry(e: Echelon, left: u32, tag: u32) -> Echelon
+    requires { ⌜ e .count < ROWS ⌝ }
+    ensures { λ r. ⌜ echelonOf r ≡ withEntry (echelonOf e) left tag ⌝ }
 {
-    let r = reduce(e, column, power(j));
-    let left = r.left;
-    let tag = r.tag;
-    if left == 0 {
-        return e;
-    }
     let mut vectors = e.vectors;
     let mut pivots = e.pivots;
     let mut tags = e.tags;
@@ -91,6 +85,19 @@ pub fn grow(e: Echelon, j: u32, column: u32) -> Echelon
         tags,
         count: count + 1,
     }
+}
+
+// The entries after column j, too.
+pub fn grow(e: Echelon, j: u32, column: u32) -> Echelon
+    requires { ⌜ (e .count < ROWS) × (j < WORD) ⌝ }
+    ensures { λ r. ⌜ echelonOf r ≡ grown (echelonOf e) j column ⌝ }
+{
+    let r = reduce(e, column, power(j));
+    let left = r.left;
+    if left == 0 {
+        return e;
+    }
+    with_entry(e, left, r.tag)
 }
 
 // The entries after the first k columns.

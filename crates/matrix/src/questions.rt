@@ -5,21 +5,65 @@ ghost use mathlib.Core.List.{_++_};
 ghost use Prim.Native.Nat.{_<_, _≤_, _-_, _^_};
 ghost use lib.ListN.{take, replicate};
 ghost use Rattle.bank.specs.Limits.{ROWS};
-ghost use Rattle.algebra.specs.Matrix.{singular, inverse, columns, spills};
-ghost use Rattle.matrix.specs.Solved.{solvedFor};
+ghost use Rattle.algebra.specs.Matrix.{kernel, singular, inverse, columns, spills};
+ghost use Rattle.matrix.specs.Solved.{Complete, solvedFor};
+use crate::echelon::Echelon;
 use crate::echelon::eliminate;
 use crate::echelon::grow;
 use crate::echelon::no_entries;
 use crate::echelon::reduce;
+use crate::echelon::with_entry;
 use crate::rows::apply_part;
 use crate::rows::columns;
 use crate::vector::power;
 use bank::ROWS;
 
-// Whether a matrix is singular and, where it isn't, the source of an address; 0 where it is.
+// The least nonzero vector that a matrix sends to zero, 0 where there is none; and the entries of all its columns where there is none.
+struct Swept {
+    kernel: u32,
+    entries: Echelon,
+}
+
+// The least nonzero vector that a matrix sends to zero and, where there is none, the source of an address; 0 in place of either.
 pub struct Solved {
-    pub singular: bool,
+    pub kernel: u32,
     pub source: u32,
+}
+
+// The one elimination: up to the first column that is the sum of some to its left, for no smaller vector is sent to zero.
+fn sweep(rows: &[u32; ROWS], n: usize) -> Swept
+    requires { ⌜ n ≤ ROWS ⌝ }
+    ensures { λ r. ⌜ (r .kernel ≡ kernel n (take n (now (rows .entry)))) × Complete n (now (rows .entry)) r ⌝ }
+{
+    let cols = columns(rows, 0, n, n);
+    let mut e = no_entries();
+    let mut j: usize = 0;
+    while j < n {
+        let r = reduce(e, cols[j], power(j as u32));
+        let left = r.left;
+        let tag = r.tag;
+        if left == 0 {
+            return Swept {
+                kernel: tag,
+                entries: e,
+            };
+        }
+        e = with_entry(e, left, tag);
+        j += 1;
+    }
+    Swept {
+        kernel: 0,
+        entries: e,
+    }
+}
+
+// The least nonzero vector that the matrix of the first n rows sends to zero, 0 where there is none.
+pub fn kernel(rows: &[u32; ROWS], n: usize) -> u32
+    requires { ⌜ n ≤ ROWS ⌝ }
+    ensures { λ r. ⌜ r ≡ kernel n (take n (now (rows .entry))) ⌝ }
+{
+    let swept = sweep(rows, n);
+    swept.kernel
 }
 
 // Whether the matrix of the first n rows sends some nonzero vector to zero.
@@ -27,29 +71,22 @@ pub fn is_singular(rows: &[u32; ROWS], n: usize) -> bool
     requires { ⌜ n ≤ ROWS ⌝ }
     ensures { λ r. ⌜ r ≡ singular n (take n (now (rows .entry))) ⌝ }
 {
-    let cols = columns(rows, 0, n, n);
-    let e = eliminate(&cols, n);
-    let count = e.count;
-    count < n
+    kernel(rows, n) != 0
 }
 
-// Whether the first n rows are singular, and the address that they and c send to y: one elimination answers both.
+// The least nonzero vector that the first n rows send to zero, or the address that they and c send to y: one elimination answers both.
 pub fn solve(rows: &[u32; ROWS], n: usize, c: u32, y: u32) -> Solved
     requires { ⌜ (n ≤ ROWS) × (c < 2 ^ n) × (y < 2 ^ n) ⌝ }
     ensures { λ r. ⌜ r ≡ solvedFor n (take n (now (rows .entry))) c y ⌝ }
 {
-    let cols = columns(rows, 0, n, n);
-    let e = eliminate(&cols, n);
-    let count = e.count;
-    if count < n {
-        return Solved {
-            singular: true,
-            source: 0,
-        };
+    let swept = sweep(rows, n);
+    let kernel = swept.kernel;
+    if kernel != 0 {
+        return Solved { kernel, source: 0 };
     }
-    let r = reduce(e, y ^ c, 0);
+    let r = reduce(swept.entries, y ^ c, 0);
     Solved {
-        singular: false,
+        kernel: 0,
         source: r.tag,
     }
 }

@@ -1,28 +1,30 @@
 -- What is answered to an address question? Assumes nothing.
 use mathlib.Core.Path.{_≡_, refl, sym, ap, ap₂, subst, _∙_}
-use mathlib.Core.Bool.{Bool}
+use mathlib.Core.Bool.{Bool, true, false, not}
 use mathlib.Core.List.{[], _∷_}
 use Prim.Native.Nat.{ℕ, zero, suc, _%_, _≤_, _<_, _^_}
 use native.Mathlib.Nat.{lt-of-lt-of-le, mod-eq-of-lt, mod-lt}
 use native.Mathlib.Omega.{arith}
 use borrow.Author.Tests.{le-leb, leb-false, lt-leb}
-use lib.Dec.{leb}
+use lib.Dec.{eqb, leb}
 use lib.ListN.{length-take}
 use lib.Pow.{pow-mono, pow-pos}
 use Rattle.bank.specs.Limits.{ROWS}
 use Rattle.bank.proofs.Limits.{limits→allowed}
 use Rattle.bank.specs.Geometry.{records}
 use Rattle.bank.specs.Checks.{refuse, orLater, handed}
-use Rattle.algebra.specs.Matrix.{target, source, singular}
+use Rattle.algebra.specs.Matrix.{kernel, target, source, singular}
 use Rattle.algebra.specs.Vector.{WORD}
 use Rattle.algebra.proofs.Inverse.{target-lt}
+use Rattle.algebra.proofs.Singular.{kernel-tells}
 use Rattle.matrix.specs.Solved.{solvedFor}
 use Rattle.matrix.specs.declared.questions.Solved.{Solved}
-use Rattle.order.specs.Order.{matrixOf, formNumber, judgement}
+use Rattle.order.specs.Order.{matrixOf, formNumber, judgement, verdict, withZ, zWith}
 use Rattle.order.specs.Address.{questionNumber, sentTo, targetOf, meaningOf, foundFor}
-use Rattle.order.proofs.Judged.{or-later-none, or-later-refuse, or-later-stops, form-none, judgement-form, judgement-formed, refuse-none}
+use Rattle.order.proofs.Judged.{formed-z, z-other, or-later-none, or-later-refuse, or-later-stops, form-none, judgement-form, judgement-formed, refuse-none}
 use Rattle.order.proofs.Accepted.{judgement→accepted, complement-below}
 use Rattle.order.specs.declared.Order.{Order}
+use Rattle.order.specs.declared.Verdict.{Verdict}
 use Rattle.order.specs.declared.address.Target.{Target}
 use Rattle.order.specs.declared.address.Source.the-variants.{From, Refused}
 
@@ -34,6 +36,11 @@ in-word n x few h = lt-of-lt-of-le h (pow-mono {i = n} {j = WORD} (omega arith))
 handed-refused : {A : Type 0} (k : ℕ) (result other : A) → (k ≡ 0 → ⊥) → handed k result other ≡ other
 handed-refused zero result other f = absurd (f refl)
 handed-refused (suc k) result other f = refl
+
+-- 10, or none
+ten-not-three : (far : Bool) → refuse far 10 0 ≡ 3 → ⊥
+ten-not-three true e = omega (arith, e)
+ten-not-three false e = omega (arith, e)
 
 module _ (order : Order) (x : ℕ) where
   -- ---- the number
@@ -61,6 +68,25 @@ module _ (order : Order) (x : ℕ) where
       let far = refuse (leb (records (order .geometry)) x) 10 0 in
       ap (λ (k : ℕ). orLater k far) (judgement-formed order e) ∙ or-later-refuse (singular (order .geometry .n) (matrixOf order)) 2 far
 
+  -- ---- the number and z: the order's own, or else no z
+  pub question-judged : (judgement order ≡ 0 → ⊥) → verdict order ≡ withZ (questionNumber order x) order
+  question-judged f = ap (λ (k : ℕ). withZ k order) (sym (number-order f))
+
+  pub question-taken : (k : ℕ) → judgement order ≡ 0 → k ≡ refuse (leb (records (order .geometry)) x) 10 0
+      → _≡_ {A = Verdict} (record { number = k; z = record { 0 = 0 } }) (withZ (questionNumber order x) order)
+  question-taken k e q =
+      let number = q ∙ sym (number-taken e) in
+      let none = z-other order (λ t. ten-not-three (leb (records (order .geometry)) x) (sym (number-taken e) ∙ t)) in
+      ap₂ {C = Verdict} (λ (k z : ℕ). record { number = k; z = record { 0 = z } }) number (sym none)
+
+  pub question-three : questionNumber order x ≡ 3 → judgement order ≡ 3
+  unfolding questionNumber
+  question-three e = go (judgement order) refl e
+    where
+      go : (k : ℕ) → judgement order ≡ k → orLater k (refuse (leb (records (order .geometry)) x) 10 0) ≡ 3 → judgement order ≡ 3
+      go zero j e = absurd (ten-not-three (leb (records (order .geometry)) x) e)
+      go (suc k) j e = j ∙ e
+
   -- nothing is refused exactly where the order is taken and the address is below N
   none-means : questionNumber order x ≡ 0 → (judgement order ≡ 0) × (x < records (order .geometry))
   unfolding questionNumber
@@ -83,15 +109,18 @@ module _ (order : Order) (x : ℕ) where
       (complement-below order (a .form))
 
   -- ---- the answers, by the number
-  pub target-refused : (k : ℕ) → k ≡ questionNumber order x → (k ≡ 0 → ⊥)
-      → _≡_ {A = Target} (record { number = k; address = record { 0 = 0 } }) (targetOf order x)
+  pub target-refused : (v : Verdict) → v ≡ withZ (questionNumber order x) order → (v .number ≡ 0 → ⊥)
+      → _≡_ {A = Target} (record { number = v .number; address = record { 0 = 0 }; z = v .z }) (targetOf order x)
   unfolding targetOf
-  target-refused k e f = rw (← e, handed-refused k (sentTo order x) 0 f)
+  target-refused v e f =
+      let number = ap (λ (v : Verdict). v .number) e in
+      ap (λ (v : Verdict). record { number = v .number; address = record { 0 = 0 }; z = v .z }) e
+      ∙ rw (handed-refused (questionNumber order x) (sentTo order x) 0 (λ z. f (number ∙ z)))
 
   pub target-given : (y : ℕ) → questionNumber order x ≡ 0 → y ≡ target (matrixOf order) (order .complement) x
-      → _≡_ {A = Target} (record { number = 0; address = record { 0 = y } }) (targetOf order x)
-  unfolding targetOf
-  target-given y e q = rw e (ap (λ (k : ℕ). record { number = 0; address = record { 0 = k } }) q)
+      → _≡_ {A = Target} (record { number = 0; address = record { 0 = y }; z = record { 0 = 0 } }) (targetOf order x)
+  unfolding targetOf zWith
+  target-given y e q = rw e (ap (λ (k : ℕ). record { number = 0; address = record { 0 = k }; z = record { 0 = 0 } }) q)
 
   -- read off an answer
   module _ (t : Target) (answer : t ≡ targetOf order x) where
@@ -103,14 +132,15 @@ module _ (order : Order) (x : ℕ) where
     unfolding targetOf
     target-address e = ap (λ (t : Target). t .address .0) answer ∙ rw e
 
-  pub source-refused : (k : ℕ) → k ≡ questionNumber order x → (k ≡ 0 → ⊥) → meaningOf (Refused k) ≡ foundFor order x
+  pub source-refused : (k z : ℕ) → k ≡ questionNumber order x → z ≡ zWith (questionNumber order x) order → (k ≡ 0 → ⊥)
+      → meaningOf (Refused k (record { 0 = z })) ≡ foundFor order x
   unfolding meaningOf foundFor
-  source-refused k e f = rw (← e, handed-refused k (source (order .geometry .n) (matrixOf order) (order .complement) x ∷ []) [] f)
+  source-refused k z e w f = rw (w, ← e, handed-refused k (source (order .geometry .n) (matrixOf order) (order .complement) x ∷ []) [] f)
 
   pub source-given : (y : ℕ) → questionNumber order x ≡ 0 → y ≡ source (order .geometry .n) (matrixOf order) (order .complement) x
       → meaningOf (From (record { 0 = y })) ≡ foundFor order x
-  unfolding meaningOf foundFor
-  source-given y e q = rw e (ap (λ (k : ℕ). record { number = 0; sources = k ∷ [] }) q)
+  unfolding meaningOf foundFor zWith
+  source-given y e q = rw e (ap (λ (k : ℕ). record { number = 0; z = 0; sources = k ∷ [] }) q)
 
 -- ---- an order in good form, and the low n bits of x, of which one elimination tells whether A is singular, and the source
 module _ (order : Order) (x size : ℕ) (is : size ≡ records (order .geometry)) (form : formNumber order ≡ 0) where
@@ -123,11 +153,20 @@ module _ (order : Order) (x size : ℕ) (is : size ≡ records (order .geometry)
       )
 
   module _ (s : Solved) (answer : s ≡ solvedFor (order .geometry .n) (matrixOf order) (order .complement) (x % size)) where
-    pub number-solved : refuse (s .singular) 3 (refuse (leb size x) 10 0) ≡ questionNumber order x
+    z-kernel : s .kernel ≡ kernel (order .geometry .n) (matrixOf order)
     unfolding solvedFor
+    z-kernel = ap (λ (s : Solved). s .kernel) answer
+
+    pub number-solved : refuse (not (eqb (s .kernel) 0)) 3 (refuse (leb size x) 10 0) ≡ questionNumber order x
     number-solved =
-        ap₂ (λ (t : Bool) (k : ℕ). refuse t 3 (refuse (leb k x) 10 0)) (ap (λ (s : Solved). s .singular) answer) is
+        ap₂ (λ (t : Bool) (k : ℕ). refuse t 3 (refuse (leb k x) 10 0))
+        (ap (λ (k : ℕ). not (eqb k 0)) z-kernel ∙ kernel-tells (order .geometry .n) (matrixOf order)) is
         ∙ sym (number-formed order x form)
+
+    pub z-solved : s .kernel ≡ zWith (questionNumber order x) order
+    z-solved =
+        let far = leb (records (order .geometry)) x in
+        z-kernel ∙ sym (ap (λ (k : ℕ). zWith k order) (number-formed order x form) ∙ formed-z order (refuse far 10 0) (ten-not-three far))
 
     pub source-solved : questionNumber order x ≡ 0 → s .source ≡ source (order .geometry .n) (matrixOf order) (order .complement) x
     unfolding solvedFor

@@ -1,9 +1,9 @@
 -- Which judgement follows from which checks? Assumes nothing.
 use mathlib.Core.Path.{_≡_, refl, sym, ap, _∙_}
-use mathlib.Core.Bool.{Bool, true, false, not, _&&_}
+use mathlib.Core.Bool.{Bool, true, false, cond, not, _&&_}
 use Prim.Native.Nat.{ℕ, zero, suc, _≤_, _<_}
 use native.Mathlib.Omega.{arith}
-use borrow.Author.Tests.{eq-eqb, le-leb, leb-true, lt-leb, not-false}
+use borrow.Author.Tests.{eq-eqb, le-leb, leb-true, lt-leb, ne-eqb, not-false}
 use lib.Dec.{eqb, leb}
 use lib.ListN.{getD}
 use Rattle.bank.specs.Limits.{ROWS}
@@ -11,9 +11,10 @@ use Rattle.bank.specs.Geometry.{inLimits, records}
 use Rattle.bank.specs.Checks.{refuse, orLater}
 use Rattle.algebra.specs.Vector.{WORD}
 use Rattle.algebra.specs.Search.{anyBelow}
-use Rattle.algebra.specs.Matrix.{singular}
-use Rattle.algebra.proofs.Search.{none-intro}
-use Rattle.order.specs.Order.{Words, matrixOf, strayRow, strayComplement, spareRow, badForm, formNumber, judgement}
+use Rattle.algebra.specs.Matrix.{kernel, singular}
+use Rattle.algebra.proofs.Search.{by-test, none-intro}
+use Rattle.algebra.proofs.Singular.{kernel-none}
+use Rattle.order.specs.Order.{Words, matrixOf, strayRow, strayComplement, spareRow, badForm, formNumber, judgement, zWith}
 use Rattle.order.specs.declared.Order.{Order}
 
 -- ---- the form, as code tests it: size is N, and t what the search for stray rows says
@@ -94,6 +95,46 @@ module _ (order : Order) where
 
     pub regular-none : badForm order ≡ false → singular (order .geometry .n) (matrixOf order) ≡ false → judgement order ≡ 0
     regular-none f e = in-form f ∙ ap (λ (t : Bool). refuse t 3 0) e
+
+-- ---- z
+module _ (order : Order) where
+  pub z-three : {k : ℕ} → k ≡ 3 → zWith k order ≡ kernel (order .geometry .n) (matrixOf order)
+  unfolding zWith
+  z-three e = rw e
+
+  pub z-other : {k : ℕ} → (k ≡ 3 → ⊥) → zWith k order ≡ 0
+  unfolding zWith
+  z-other {k} f = ap (λ (t : Bool). cond t (kernel (order .geometry .n) (matrixOf order)) 0) (ne-eqb k 3 f)
+
+  -- the form's number isn't 3, and has no z
+  form-other : formNumber order ≡ 3 → ⊥
+  unfolding formNumber
+  form-other = go (not (inLimits (order .geometry))) (badForm order)
+    where
+      go : (s t : Bool) → refuse s 1 (refuse t 2 0) ≡ 3 → ⊥
+      go true t e = omega (arith, e)
+      go false true e = omega (arith, e)
+      go false false e = omega (arith, e)
+
+  pub form-z : zWith (formNumber order) order ≡ 0
+  form-z = z-other form-other
+
+  -- 3 is given for a singular matrix alone
+  pub three-singular : judgement order ≡ 3 → singular (order .geometry .n) (matrixOf order) ≡ true
+  unfolding judgement
+  three-singular e = go (formNumber order) (singular (order .geometry .n) (matrixOf order)) refl e
+    where
+      go : (k : ℕ) (s : Bool) → formNumber order ≡ k → orLater k (refuse s 3 0) ≡ 3 → s ≡ true
+      go zero true f e = refl
+      go zero false f e = absurd (omega (arith, e))
+      go (suc k) s f e = absurd (form-other (f ∙ e))
+
+  -- in good form, the least vector that A sends to zero is z: where there is none, no later check gives 3
+  pub formed-z : (later : ℕ) → (later ≡ 3 → ⊥)
+      → zWith (refuse (singular (order .geometry .n) (matrixOf order)) 3 later) order ≡ kernel (order .geometry .n) (matrixOf order)
+  formed-z later f =
+      by-test (singular (order .geometry .n) (matrixOf order)) (λ s. z-three (ap (λ (t : Bool). refuse t 3 later) s))
+      (λ s. z-other (λ e. f (sym (ap (λ (t : Bool). refuse t 3 later) s) ∙ e)) ∙ sym (kernel-none (order .geometry .n) (matrixOf order) s))
 
 -- ---- rows and a complement below N, and zeros at the places beyond the rows, are good form
 module _ (order : Order) (below : (i : ℕ) → i < order .geometry .n → getD (order .rows) i 0 < records (order .geometry))

@@ -10,7 +10,7 @@ use Rattle.bank.specs.Geometry.{inLimits, records}
 use Rattle.algebra.specs.Matrix.{source, singular}
 use Rattle.algebra.proofs.Singular.{Clash, clash→singular, singular→clash, regular-inj}
 use Rattle.algebra.proofs.Inverse.{source-lt, target-source-is}
-use Rattle.order.specs.Order.{matrixOf, badForm, judgement}
+use Rattle.order.specs.Order.{matrixOf, badForm, judgement, zWith}
 use Rattle.order.specs.Address.{targetOf, meaningOf, foundFor, sentTo}
 use Rattle.order.specs.declared.Order.{Order}
 use Rattle.order.specs.declared.address.Source.{Source}
@@ -43,19 +43,19 @@ module _ (order : Order) (room : length (order .rows) ≡ ROWS) (taken : judgeme
   rows-n = omega (arith, matrix-length order (ok .inside) room)
 
   -- it sends x to Ax xor c
-  pub sends : (x : ℕ) → x < records (order .geometry) → targetOf order x ≡ record { number = 0; address = record { 0 = sentTo order x } }
+  pub sends : (x : ℕ) → x < records (order .geometry) → targetOf order x ≡ record { number = 0; address = record { 0 = sentTo order x }; z = record { 0 = 0 } }
   sends x h = sym (target-given order x (sentTo order x) (number-none order x taken h) refl)
 
   -- asked backwards, it gives the only x that goes there
   pub record Comes (y : ℕ) : Type 0 where
     pub from : ℕ
-    pub answer : foundFor order y ≡ record { number = 0; sources = from ∷ [] }
+    pub answer : foundFor order y ≡ record { number = 0; z = 0; sources = from ∷ [] }
     pub below : from < records (order .geometry)
     pub goes : sentTo order from ≡ y
     pub only : (x : ℕ) → x < records (order .geometry) → sentTo order x ≡ y → x ≡ from
 
   pub comes : (y : ℕ) → y < records (order .geometry) → Comes y
-  unfolding foundFor
+  unfolding foundFor zWith
   comes y h =
       let s = source n (matrixOf order) (order .complement) y in
       let b = source-lt n (matrixOf order) (ok .regular) rows-n (order .complement) y (complement-below order (ok .form)) h in
@@ -76,6 +76,6 @@ one-answer (From a) (From b) e = ap From (λ i. record { 0 = head (e i .sources)
     head : List ℕ → ℕ
     head [] = 0
     head (x ∷ xs) = x
-one-answer (From a) (Refused k) e = absurd (omega (arith, ap (λ f. length (f .sources)) e))
-one-answer (Refused k) (From b) e = absurd (omega (arith, ap (λ f. length (f .sources)) e))
-one-answer (Refused j) (Refused k) e = ap Refused (λ i. e i .number)
+one-answer (From a) (Refused k z) e = absurd (omega (arith, ap (λ f. length (f .sources)) e))
+one-answer (Refused k z) (From b) e = absurd (omega (arith, ap (λ f. length (f .sources)) e))
+one-answer (Refused j y) (Refused k z) e = λ i. Refused (e i .number) (record { 0 = e i .z })

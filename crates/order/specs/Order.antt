@@ -1,5 +1,5 @@
 -- Which orders are taken, and by which number is another refused? Assumes nothing.
-use mathlib.Core.Bool.{Bool, not, _&&_, _||_}
+use mathlib.Core.Bool.{Bool, cond, not, _&&_, _||_}
 use mathlib.Core.List.{List}
 use Prim.Native.Nat.{ℕ, _<_, _^_}
 use lib.Dec.{eqb, leb}
@@ -9,8 +9,9 @@ use Rattle.bank.specs.Geometry.{inLimits, records}
 use Rattle.bank.specs.Checks.{refuse, orLater}
 use Rattle.algebra.specs.Vector.{WORD}
 use Rattle.algebra.specs.Search.{anyBelow}
-use Rattle.algebra.specs.Matrix.{singular}
+use Rattle.algebra.specs.Matrix.{kernel, singular}
 use Rattle.order.specs.declared.Order.{Order}
+use Rattle.order.specs.declared.Verdict.{Verdict}
 
 -- A: the first n rows
 abbrev pub matrixOf : Order → List ℕ
@@ -44,3 +45,17 @@ formNumber order = refuse (not (inLimits (order .geometry))) 1 (refuse (badForm 
 -- the judgement of an order: the number for its form; then 3, A is singular; 0, it is taken
 unfoldable pub judgement : Order → ℕ
 judgement order = orLater (formNumber order) (refuse (singular (order .geometry .n) (matrixOf order)) 3 0)
+
+-- ---- why an order is singular
+
+-- what goes with a number that is given for an order: with 3, z, the least nonzero address that A sends to zero; with every other number, 0
+unfoldable pub zWith : ℕ → Order → ℕ
+zWith number order = cond (eqb number 3) (kernel (order .geometry .n) (matrixOf order)) 0
+
+-- a number and its z
+abbrev pub withZ : ℕ → Order → Verdict
+withZ number order = record { number = number; z = record { 0 = zWith number order } }
+
+-- the judgement and its z
+abbrev pub verdict : Order → Verdict
+verdict order = withZ (judgement order) order

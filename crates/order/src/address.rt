@@ -1,45 +1,53 @@
 // Addresses both ways.
 ghost use mathlib.Core.Path.{_≡_};
 ghost use Rattle.order.specs.Address.{questionNumber, targetOf, meaningOf, foundFor};
+ghost use Rattle.order.specs.Order.{withZ};
 use crate::Order;
+use crate::Verdict;
 use crate::form_number;
 use crate::judge;
 use crate::refuse;
 use bank::Address;
 
-// Where an address goes: the number, and the address that it goes to, 0 where refused.
+// Where an address goes: the number, and the address that it goes to, 0 where refused. With 3, z; 0 with every other number.
 pub struct Target {
     pub number: u8,
     pub address: Address,
+    pub z: Address,
 }
 
-// Where an address comes from, or the number of the refusal.
+// Where an address comes from, or the number of the refusal and its z.
 pub enum Source {
     From(Address),
-    Refused(u8),
+    Refused(u8, Address),
 }
 
 // The number of an address question: 1, 2, 3 for the order, then 10 for the address.
-fn question(order: Order, x: Address) -> u8
-    ensures { λ r. ⌜ r ≡ questionNumber order (x .0) ⌝ }
+fn question(order: Order, x: Address) -> Verdict
+    ensures { λ r. ⌜ r ≡ withZ (questionNumber order (x .0)) order ⌝ }
 {
-    let number = judge(order);
-    if number != 0 {
-        return number;
+    let judged = judge(order);
+    if judged.number != 0 {
+        return judged;
     }
     let g = order.geometry;
-    refuse(bank::power(g.n) <= x.0, 10, 0)
+    Verdict {
+        number: refuse(bank::power(g.n) <= x.0, 10, 0),
+        z: Address(0),
+    }
 }
 
 // Where the order sends x: Ax xor c.
 pub fn target_of(order: Order, x: Address) -> Target
     ensures { λ r. ⌜ r ≡ targetOf order (x .0) ⌝ }
 {
-    let number = question(order, x);
-    if number != 0 {
+    let asked = question(order, x);
+    let z = asked.z;
+    if asked.number != 0 {
         return Target {
-            number: number,
+            number: asked.number,
             address: Address(0),
+            z,
         };
     }
     let g = order.geometry;
@@ -49,25 +57,27 @@ pub fn target_of(order: Order, x: Address) -> Target
     Target {
         number: 0,
         address: Address(bank::wide(y)),
+        z: Address(0),
     }
 }
 
-// The one address that the order sends to y. One elimination tells 3 and the source, so it is asked of the low n bits of y before 10 is known.
+// The one address that the order sends to y. One elimination tells 3, z and the source, so it is asked of the low n bits of y before 10 is known.
 pub fn source_of(order: Order, y: Address) -> Source
     ensures { λ r. ⌜ meaningOf r ≡ foundFor order (y .0) ⌝ }
 {
     let form = form_number(order);
     if form != 0 {
-        return Source::Refused(form);
+        return Source::Refused(form, Address(0));
     }
     let g = order.geometry;
     let rows = order.rows;
     let size = bank::power(g.n);
     let low = (y.0 % size) as u32;
     let solved = matrix::questions::solve(&rows, g.n as usize, order.complement, low);
-    let number = refuse(solved.singular, 3, refuse(size <= y.0, 10, 0));
+    let z = solved.kernel;
+    let number = refuse(z != 0, 3, refuse(size <= y.0, 10, 0));
     if number != 0 {
-        return Source::Refused(number);
+        return Source::Refused(number, Address(bank::wide(z)));
     }
     Source::From(Address(bank::wide(solved.source)))
 }

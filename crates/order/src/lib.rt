@@ -6,9 +6,10 @@ ghost use mathlib.Core.Path.{_≡_};
 ghost use Prim.Native.Nat.{_≤_};
 ghost use Rattle.bank.specs.Limits.{ROWS};
 ghost use Rattle.bank.specs.Checks.{refuse};
-ghost use Rattle.order.specs.Order.{badForm, formNumber, judgement};
+ghost use Rattle.order.specs.Order.{badForm, formNumber, verdict};
 use crate::form::spare;
 use crate::form::stray;
+use bank::Address;
 use bank::Geometry;
 use bank::ROWS;
 
@@ -17,6 +18,12 @@ pub struct Order {
     pub geometry: Geometry,
     pub rows: [u32; ROWS],
     pub complement: u32,
+}
+
+// The judgement of an order: the number and, with 3, the least nonzero address z that A sends to zero; 0 with every other number.
+pub struct Verdict {
+    pub number: u8,
+    pub z: Address,
 }
 
 // Whether the order isn't in good form, in a geometry inside the limits.
@@ -53,15 +60,21 @@ pub(crate) fn form_number(order: Order) -> u8
     refuse(bad_form(order), 2, 0)
 }
 
-// The judgement of an order: 1, 2, 3 or 0, the first that applies.
-pub fn judge(order: Order) -> u8
-    ensures { λ r. ⌜ r ≡ judgement order ⌝ }
+// The judgement of an order: 1, 2, 3 or 0, the first that applies. The elimination that tells 3 tells z.
+pub fn judge(order: Order) -> Verdict
+    ensures { λ r. ⌜ r ≡ verdict order ⌝ }
 {
     let number = form_number(order);
     if number != 0 {
-        return number;
+        return Verdict {
+            number,
+            z: Address(0),
+        };
     }
     let rows = order.rows;
-    let n = order.geometry.n as usize;
-    refuse(matrix::questions::is_singular(&rows, n), 3, 0)
+    let z = matrix::questions::kernel(&rows, order.geometry.n as usize);
+    Verdict {
+        number: refuse(z != 0, 3, 0),
+        z: Address(bank::wide(z)),
+    }
 }

@@ -1,9 +1,10 @@
 -- What does a planning call answer, refused or not? Assumes nothing.
-use mathlib.Core.Path.{_∙_, _≡_, ap₂, refl, sym}
+use mathlib.Core.Path.{_∙_, _≡_, ap, ap₂, refl, sym}
 use Prim.Native.Nat.{suc, zero, ℕ}
 use Rattle.bank.specs.Checks.{handed}
-use Rattle.order.specs.Order.{judgement, matrixOf}
+use Rattle.order.specs.Order.{judgement, matrixOf, verdict, zWith}
 use Rattle.order.specs.declared.Order.{Order}
+use Rattle.order.specs.declared.Verdict.{Verdict}
 use Rattle.planning.specs.Stored.{emptyPlan, planFor}
 use Rattle.planning.specs.declared.Plan.{Plan}
 use Rattle.plan.specs.Answer.{plannedFor}
@@ -13,24 +14,34 @@ module _ (order : Order) where
   abbrev made : Plan
   made = planFor (order .geometry) (matrixOf order) (order .complement)
 
-  -- refused: the number, and the empty plan
-  pub planned-refused : (judgement order ≡ 0 → ⊥) → plannedFor order ≡ record { number = judgement order; plan = emptyPlan }
+  -- a verdict, and a plan with it
+  abbrev with-plan : Verdict → Plan → Planned
+  with-plan v plan = record { number = v .number; plan = plan; z = v .z }
+
+  -- refused: the empty plan
+  pub planned-refused : (judgement order ≡ 0 → ⊥) → plannedFor order ≡ with-plan (verdict order) emptyPlan
   unfolding plannedFor
-  planned-refused h = go (judgement order) h
+  planned-refused h = ap (with-plan (verdict order)) (go (judgement order) h)
     where
-      go : (k : ℕ) → (k ≡ 0 → ⊥) → _≡_ {A = Planned} (record { number = k; plan = handed k made emptyPlan }) (record { number = k; plan = emptyPlan })
+      go : (k : ℕ) → (k ≡ 0 → ⊥) → handed k made emptyPlan ≡ emptyPlan
       go zero h = absurd (h refl)
       go (suc k) h = refl
 
   -- taken: 0, and the plan
-  pub planned-taken : judgement order ≡ 0 → plannedFor order ≡ record { number = 0; plan = made }
-  unfolding plannedFor
+  pub planned-taken : judgement order ≡ 0 → plannedFor order ≡ record { number = 0; plan = made; z = record { 0 = 0 } }
+  unfolding plannedFor zWith
   planned-taken e = rw e
 
   -- as the code makes it
-  module _ (number : ℕ) (plan : Plan) (is : number ≡ judgement order) where
-    pub answer-refused : (number ≡ 0 → ⊥) → plan ≡ emptyPlan → record { number = number; plan = plan } ≡ plannedFor order
-    answer-refused h e = ap₂ (λ (k : ℕ) (p : Plan). record { number = k; plan = p }) is e ∙ sym (planned-refused (λ z. h (is ∙ z)))
+  module _ (v : Verdict) (plan : Plan) (is : v ≡ verdict order) where
+    number : v .number ≡ judgement order
+    number = ap (λ (v : Verdict). v .number) is
 
-    pub answer-taken : number ≡ 0 → plan ≡ made → record { number = number; plan = plan } ≡ plannedFor order
-    answer-taken h e = ap₂ (λ (k : ℕ) (p : Plan). record { number = k; plan = p }) h e ∙ sym (planned-taken (sym is ∙ h))
+    pub answer-refused : (v .number ≡ 0 → ⊥) → plan ≡ emptyPlan → with-plan v plan ≡ plannedFor order
+    answer-refused h e = ap₂ with-plan is e ∙ sym (planned-refused (λ z. h (number ∙ z)))
+
+    pub answer-taken : v .number ≡ 0 → plan ≡ made → with-plan v plan ≡ plannedFor order
+    unfolding zWith
+    answer-taken h e =
+        ap₂ with-plan is e ∙ ap {B = Planned} (λ (k : ℕ). record { number = k; plan = made; z = record { 0 = zWith k order } }) (sym number ∙ h)
+        ∙ sym (planned-taken (sym number ∙ h))

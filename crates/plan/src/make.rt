@@ -14,6 +14,7 @@ ghost use Rattle.plan.specs.Answer.{plannedFor};
 use crate::store::empty_plan;
 use crate::store::no_passes;
 use crate::store::with_pass;
+use bank::Address;
 use bank::Geometry;
 use bank::ROWS;
 use matrix::rows::columns;
@@ -26,10 +27,11 @@ use planner::rounds::is_busy;
 use planner::rounds::round;
 use planning::Plan;
 
-// The number of a planning call, and its plan: the empty plan where refused.
+// The number of a planning call, and its plan: the empty plan where refused. With 3, z; 0 with every other number.
 pub struct Planned {
     pub number: u8,
     pub plan: Plan,
+    pub z: Address,
 }
 
 // The rows of A Q, from the columns of A and of Q; the places after them hold zero.
@@ -90,12 +92,18 @@ fn plan_for(g: Geometry, rows: [u32; ROWS], c: u32) -> Plan
 pub fn make_plan(order: Order) -> Planned
     ensures { λ r. ⌜ r ≡ plannedFor order ⌝ }
 {
-    let number = order::judge(order);
+    let judged = order::judge(order);
+    let number = judged.number;
+    let z = judged.z;
     if number != 0 {
         let none = empty_plan();
-        return Planned { number, plan: none };
+        return Planned {
+            number,
+            plan: none,
+            z,
+        };
     }
     let rows = order.rows;
     let plan = plan_for(order.geometry, rows, order.complement);
-    Planned { number, plan }
+    Planned { number, plan, z }
 }

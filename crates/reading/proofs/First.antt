@@ -14,7 +14,7 @@ use Rattle.bank.specs.declared.Geometry.{Geometry}
 use Rattle.bank.proofs.Limits.{n-room, square-small}
 use Rattle.algebra.proofs.Search.{le-or-lt}
 use Rattle.order.specs.declared.Order.{Order}
-use Rattle.order.specs.Order.{matrixOf}
+use Rattle.order.specs.Order.{matrixOf, zWith}
 use Rattle.text.specs.Lines.{line, decimal, bits, rowLines}
 use Rattle.text.proofs.Decimals.{decimal-short}
 use Rattle.text.proofs.RowLines.{length-line, length-row-lines}
@@ -91,9 +91,10 @@ module _ (input : List ℕ) where
   whole-first g inside order w =
       subst (λ (l : List ℕ). Whole l g order) (sym (take-all TEXT input (omega (arith, whole-short input g inside order w)))) w
 
-pub read-first : (input : List ℕ) (k : ℕ) (order : Order) → Reads (take TEXT input) k order → Reads input k order
-read-first input k order (no-first-line f) = no-first-line (λ g b. f g (begins-first input g b))
-read-first input k order (outside g b i) = outside g (begins-input input g b) i
-read-first input k order (no-rest g b i f) = no-rest g (begins-input input g b) i (λ o w. f o (whole-first input g i o w))
-read-first input k order (singular g o b i w j) = subst (λ (l : List ℕ). Reads l 3 noOrder) (all-there input g i o w) (singular g o b i w j)
-read-first input k order (taken g o b i w j) = subst (λ (l : List ℕ). Reads l 0 o) (all-there input g i o w) (taken g o b i w j)
+pub read-first : (input : List ℕ) (k : ℕ) (order : Order) (z : ℕ) → Reads (take TEXT input) k order z → Reads input k order z
+read-first input k order z (no-first-line f) = no-first-line (λ g b. f g (begins-first input g b))
+read-first input k order z (outside g b i) = outside g (begins-input input g b) i
+read-first input k order z (no-rest g b i f) = no-rest g (begins-input input g b) i (λ o w. f o (whole-first input g i o w))
+read-first input k order z (singular g o b i w j) =
+    subst (λ (l : List ℕ). Reads l 3 noOrder (zWith 3 o)) (all-there input g i o w) (singular g o b i w j)
+read-first input k order z (taken g o b i w j) = subst (λ (l : List ℕ). Reads l 0 o 0) (all-there input g i o w) (taken g o b i w j)

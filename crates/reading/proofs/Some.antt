@@ -11,7 +11,7 @@ use Rattle.bank.specs.Limits.{ROWS}
 use Rattle.bank.specs.Geometry.{inLimits}
 use Rattle.bank.specs.declared.Geometry.{Geometry}
 use Rattle.bank.proofs.Limits.{limits→allowed}
-use Rattle.algebra.specs.Matrix.{singular}
+use Rattle.algebra.specs.Matrix.{kernel}
 use Rattle.algebra.proofs.Search.{le-or-lt, same-or}
 use Rattle.order.specs.declared.Order.{Order}
 use Rattle.text.specs.Lines.{bits}
@@ -121,22 +121,26 @@ module _ (s : List ℕ) (at : ℕ) (g : Geometry) where
 -- ---- the whole text
 module _ (text : List ℕ) where
   abbrev SomeReading : Type 0
-  SomeReading = (k : ℕ) × (order : Order) × Reads text k order
+  SomeReading = (k : ℕ) × (order : Order) × (z : ℕ) × Reads text k order z
 
   module _ (g : Geometry) (e : ℕ) (is : firstLineAt text ≡ Of g e) where
     module _ (inside : inLimits g ≡ true) where
-      by-matrix : (order : Order) → RestIf 0 text e g order → (t : Bool) → singular (g .n) (take (g .n) (order .rows)) ≡ t → SomeReading
-      by-matrix order r true s = (3, noOrder, reads-singular text g e is inside order r s)
-      by-matrix order r false s = (0, order, reads-taken text g e is inside order r s)
+      by-matrix : (order : Order) → RestIf 0 text e g order → SomeReading
+      by-matrix order r =
+          let z = kernel (g .n) (take (g .n) (order .rows)) in
+          ⊎-elim
+          (λ (none : z ≡ 0). (0, order, 0, reads-taken text g e is inside order r none))
+          (λ (some : z ≡ 0 → ⊥). (3, noOrder, z, reads-singular text g e is inside order r z refl some))
+          (same-or z 0)
 
       by-rest : SomeRest text e g → SomeReading
-      by-rest (zero, order, r) = by-matrix order r (singular (g .n) (take (g .n) (order .rows))) refl
-      by-rest (suc k, order, r) = (suc k, order, reads-no-rest text g e is inside (suc k) order (λ z. omega arith) r)
+      by-rest (zero, order, r) = by-matrix order r
+      by-rest (suc k, order, r) = (suc k, order, 0, reads-no-rest text g e is inside (suc k) order (λ z. omega arith) r)
 
     by-limits : (t : Bool) → inLimits g ≡ t → SomeReading
-    by-limits false out = (1, noOrder, reads-outside text g e is out)
+    by-limits false out = (1, noOrder, 0, reads-outside text g e is out)
     by-limits true inside = by-rest inside (some-rest text e g (limits→allowed g inside .n-high))
 
   pub by-line : (l : FirstLine) → firstLineAt text ≡ l → SomeReading
-  by-line Unread is = (8, noOrder, reads-no-first-line text is)
+  by-line Unread is = (8, noOrder, 0, reads-no-first-line text is)
   by-line (Of g e) is = by-limits g e is (inLimits g) refl

@@ -57,5 +57,6 @@ abbrev pub RestIf : ℕ → List ℕ → ℕ → Geometry → Order → Type 0
 RestIf zero s at g order = RestFound s at g order
 RestIf (suc k) s at g order = NoRest s at g (suc k) order
 
+-- either way there is no z: whether A is singular isn't asked yet
 abbrev pub RestAt : List ℕ → ℕ → Geometry → Read → Type 0
-RestAt s at g r = RestIf (r .number) s at g (r .order)
+RestAt s at g r = RestIf (r .number) s at g (r .order) × (r .z .0 ≡ 0)

@@ -9,7 +9,7 @@ use Rattle.bank.specs.Limits.{ROWS}
 use Rattle.bank.specs.declared.Geometry.{Geometry}
 use Rattle.bank.specs.Geometry.{inLimits}
 use Rattle.order.specs.declared.Order.{Order}
-use Rattle.order.specs.Order.{badForm, judgement}
+use Rattle.order.specs.Order.{badForm, judgement, zWith}
 use Rattle.reading.specs.OrderText.{firstLine, orderText}
 
 -- the text begins with the first line of g, whose numbers have 1 to 3 digits
@@ -33,10 +33,11 @@ pub record Whole (text : List ℕ) (g : Geometry) (order : Order) : Type 0 where
 abbrev pub noOrder : Order
 noOrder = record { geometry = record { n = 0; b = 0; d = 0; m = 0; r = 0 }; rows = replicate ROWS 0; complement = 0 }
 
--- reading a text gives this number and this order
-pub data Reads (text : List ℕ) : ℕ → Order → Type 0 where
-  no-first-line : ((g : Geometry) → Begins text g → ⊥) → Reads text 8 noOrder
-  outside : (g : Geometry) → Begins text g → inLimits g ≡ false → Reads text 1 noOrder
-  no-rest : (g : Geometry) → Begins text g → inLimits g ≡ true → ((order : Order) → Whole text g order → ⊥) → Reads text 8 noOrder
-  singular : (g : Geometry) (order : Order) → Begins text g → inLimits g ≡ true → Whole text g order → judgement order ≡ 3 → Reads text 3 noOrder
-  taken : (g : Geometry) (order : Order) → Begins text g → inLimits g ≡ true → Whole text g order → judgement order ≡ 0 → Reads text 0 order
+-- reading a text gives this number, this order and this z: with 3 that of the order that the text is, and 0 with every other number
+pub data Reads (text : List ℕ) : ℕ → Order → ℕ → Type 0 where
+  no-first-line : ((g : Geometry) → Begins text g → ⊥) → Reads text 8 noOrder 0
+  outside : (g : Geometry) → Begins text g → inLimits g ≡ false → Reads text 1 noOrder 0
+  no-rest : (g : Geometry) → Begins text g → inLimits g ≡ true → ((order : Order) → Whole text g order → ⊥) → Reads text 8 noOrder 0
+  singular : (g : Geometry) (order : Order) → Begins text g → inLimits g ≡ true → Whole text g order → judgement order ≡ 3
+      → Reads text 3 noOrder (zWith 3 order)
+  taken : (g : Geometry) (order : Order) → Begins text g → inLimits g ≡ true → Whole text g order → judgement order ≡ 0 → Reads text 0 order 0

@@ -14,6 +14,7 @@ use crate::number::Parsed;
 use crate::number::first_line;
 use crate::rows::row_at;
 use crate::rows::rows_at;
+use bank::Address;
 use bank::Geometry;
 use bank::ROWS;
 use order::Order;
@@ -21,10 +22,11 @@ use order::Order;
 // More bytes than the text of an order inside the limits has.
 const TEXT: usize = 20 + (ROWS + 1) * (ROWS + 1) + 1;
 
-// The number, and the order: zero everywhere where refused.
+// The number, and the order: zero everywhere where refused. With 3, z; 0 with every other number.
 pub struct Read {
     pub number: u8,
     pub order: Order,
+    pub z: Address,
 }
 
 // A room for the first bytes of an input: what they are read as, the whole input is read as.
@@ -35,8 +37,8 @@ pub fn text_room() -> [u8; TEXT]
 }
 
 // A refusal.
-fn refused(number: u8) -> Read
-    ensures { λ r. ⌜ (r .number ≡ number) × (r .order ≡ noOrder) ⌝ }
+fn refused(number: u8, z: Address) -> Read
+    ensures { λ r. ⌜ r ≡ record { number = number; order = noOrder; z = z } ⌝ }
 {
     let list = [0u32; ROWS];
     Read {
@@ -52,6 +54,7 @@ fn refused(number: u8) -> Read
             rows: list,
             complement: 0,
         },
+        z,
     }
 }
 
@@ -63,14 +66,14 @@ fn rest_at(text: &[u8], at: usize, g: Geometry) -> Read
     let n = g.n as usize;
     let found = rows_at(text, at, n);
     if !found.good {
-        return refused(8);
+        return refused(8, Address(0));
     }
     let end = found.end;
     let Parsed::Value(c, k) = row_at(text, end, n) else {
-        return refused(8);
+        return refused(8, Address(0));
     };
     if k < text.len() {
-        return refused(8);
+        return refused(8, Address(0));
     }
     let list = found.rows;
     Read {
@@ -80,17 +83,18 @@ fn rest_at(text: &[u8], at: usize, g: Geometry) -> Read
             rows: list,
             complement: c,
         },
+        z: Address(0),
     }
 }
 
 pub fn read_order(text: &[u8]) -> Read
-    ensures { λ r. ⌜ Reads (now (text .entry)) (r .number) (r .order) ⌝ }
+    ensures { λ r. ⌜ Reads (now (text .entry)) (r .number) (r .order) (r .z .0) ⌝ }
 {
     let FirstLine::Of(g, e) = first_line(text) else {
-        return refused(8);
+        return refused(8, Address(0));
     };
     if !bank::in_limits(g) {
-        return refused(1);
+        return refused(1, Address(0));
     }
     let read = rest_at(text, e, g);
     if read.number != 0 {
@@ -99,8 +103,9 @@ pub fn read_order(text: &[u8]) -> Read
     let order = read.order;
     let list = order.rows;
     let n = g.n as usize;
-    if matrix::questions::is_singular(&list, n) {
-        return refused(3);
+    let z = matrix::questions::kernel(&list, n);
+    if z != 0 {
+        return refused(3, Address(bank::wide(z)));
     }
     read
 }

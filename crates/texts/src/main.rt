@@ -3,6 +3,8 @@ use libc::STDOUT_FILENO;
 use listing::ROOM;
 use listing::list_plan;
 use listing::listing_size;
+use listing::refusal::REFUSAL;
+use listing::refusal::write_refusal;
 use plan::make::make_plan;
 use reading::read_order;
 use reading::text_room;
@@ -10,9 +12,9 @@ use reading::text_room;
 fn answer(text: &[u8]) {
     let read = read_order(text);
     if read.number != 0 {
-        io::write_all(STDOUT_FILENO, b"refused ");
-        io::print_decimal(STDOUT_FILENO, read.number as u64);
-        io::write_all(STDOUT_FILENO, b"\n");
+        let mut line = [0u8; REFUSAL];
+        let k = write_refusal(read.number, read.z, &mut line);
+        io::write_all(STDOUT_FILENO, &line[..k]);
         return;
     }
     let planned = make_plan(read.order);

@@ -38,8 +38,8 @@ fn answer(text: &[u8], again: u64, run: &mut [u8], spare: &mut [u8], memory: &mu
                 os::fail(b"standard output");
             }
         }
-        Delivery::Refused(k) => {
-            say::refused(k);
+        Delivery::Refused(k, z) => {
+            say::refused(k, z);
         }
         Delivery::NoRoom(size) => {
             say::no_room(size, AREA as u64, MEMORY as u64);

@@ -1,5 +1,8 @@
 // The lines on standard error.
+use bank::Address;
 use libc::STDERR_FILENO;
+use listing::refusal::REFUSAL;
+use listing::refusal::write_refusal;
 
 fn words(w: &[u8]) {
     io::write_all(STDERR_FILENO, w);
@@ -37,10 +40,10 @@ pub(crate) fn not_opened(path: &[u8]) {
     call();
 }
 
-pub(crate) fn refused(number: u8) {
-    words(b"refused ");
-    count(number as u64);
-    words(b"\n");
+pub(crate) fn refused(number: u8, z: Address) {
+    let mut line = [0u8; REFUSAL];
+    let k = write_refusal(number, z, &mut line);
+    words(&line[..k]);
 }
 
 pub(crate) fn no_room(size: u64, area: u64, memory: u64) {

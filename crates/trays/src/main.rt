@@ -4,6 +4,8 @@ ghost use Rattle.io.specs.Counts.{Counts};
 use delivery::Delivery;
 use delivery::deliver;
 use libc::STDOUT_FILENO;
+use listing::refusal::REFUSAL;
+use listing::refusal::write_refusal;
 use reading::text_room;
 use sending::progress::Progress;
 use words::Word;
@@ -48,10 +50,10 @@ fn answer(text: &[u8], again: u64, run: &mut [u8], spare: &mut [u8], memory: &mu
         Delivery::Done => {
             words(run);
         }
-        Delivery::Refused(k) => {
-            words(b"refused ");
-            count(k as u64);
-            words(b"\n");
+        Delivery::Refused(number, z) => {
+            let mut line = [0u8; REFUSAL];
+            let k = write_refusal(number, z, &mut line);
+            words(&line[..k]);
         }
         Delivery::NoRoom(size) => {
             words(b"no room for ");

@@ -2,6 +2,7 @@
 mod say; // say.rt: a line of output
 mod orders; // orders.rt: geometry, form and addresses
 mod plans; // plans.rt: plans made, and plans judged
+mod why; // why.rt: why an order is singular
 mod steps; // steps.rt: steps and runs on lent bytes
 mod still; // still.rt: an order that leaves every record where it is
 mod limits; // limits.rt: what is tried at the limits
@@ -11,6 +12,8 @@ fn main() {
     orders::forms();
     orders::forwards();
     orders::backwards();
+    why::small();
+    why::wide();
     plans::made();
     plans::judged();
     plans::judged_more();

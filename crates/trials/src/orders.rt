@@ -61,11 +61,13 @@ pub(crate) fn largest(n: u32, r: u32) -> Order {
     }
 }
 
+// Number, target and z.
 pub(crate) fn forward(asked: &[u8], o: Order, x: u64) {
     let t = target_of(o, Address(x));
-    say::two(asked, t.number as u64, t.address.0);
+    say::three(asked, t.number as u64, t.address.0, t.z.0);
 }
 
+// 0 and the source, or the number and z.
 pub(crate) fn backward(asked: &[u8], o: Order, y: u64) {
     let Source::From(x) = source_of(o, Address(y)) else {
         refusal(asked, o, y);
@@ -75,13 +77,15 @@ pub(crate) fn backward(asked: &[u8], o: Order, y: u64) {
 }
 
 fn refusal(asked: &[u8], o: Order, y: u64) {
-    if let Source::Refused(k) = source_of(o, Address(y)) {
-        say::one(asked, k as u64);
+    if let Source::Refused(k, z) = source_of(o, Address(y)) {
+        say::two(asked, k as u64, z.0);
     }
 }
 
+// Number and z.
 pub(crate) fn judged(asked: &[u8], o: Order) {
-    say::one(asked, order::judge(o) as u64);
+    let v = order::judge(o);
+    say::two(asked, v.number as u64, v.z.0);
 }
 
 pub(crate) fn geometries() {

@@ -10,16 +10,17 @@ use running::can_run;
 use running::result_area;
 use running::total_steps;
 
-// Number, passes, steps and result area.
+// Number, passes, steps, result area and z.
 pub(crate) fn planned(asked: &[u8], o: Order) {
     let p = make_plan(o);
     let made = p.plan;
-    say::four(
+    say::five(
         asked,
         p.number as u64,
         made.count as u64,
         total_steps(made),
         result_area(made) as u64,
+        p.z.0,
     );
 }
 

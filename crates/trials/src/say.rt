@@ -34,10 +34,11 @@ pub(crate) fn three(asked: &[u8], a: u64, b: u64, c: u64) {
     end();
 }
 
-pub(crate) fn four(asked: &[u8], a: u64, b: u64, c: u64, d: u64) {
+pub(crate) fn five(asked: &[u8], a: u64, b: u64, c: u64, d: u64, e: u64) {
     first(asked, a);
     further(b);
     further(c);
     further(d);
+    further(e);
     end();
 }

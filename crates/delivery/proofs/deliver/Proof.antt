@@ -1,12 +1,9 @@
 -- `delivery::deliver` meets its contract: each check returns what is promised, and what the last leaves is set in order. Assumes nothing.
-use mathlib.Core.Path.{subst}
-use Prim.Native.Nat.{ℕ}
 use native.Mathlib.Omega.{arith}
 use Rattle.moving.specs.Step.{Buffers, buffersOf}
-use Rattle.reading.specs.Reading.{Reads}
 use Rattle.reading.proofs.Main.{Taken, read-taken}
 use Rattle.delivery.proofs.Promised.{Measured, done-promise, from-start, other-length-promise, parts-fit}
-use Rattle.delivery.proofs.Promised.{short-area, short-memory, unread-promise}
+use Rattle.delivery.proofs.Promised.{read-none, short-area, short-memory, unread-promise}
 use borrow.Author.Needs.{needs}
 use Rattle.delivery.proofs.deliver.Statement.{statement}
 use Rattle.delivery.proofs.deliver.Tie as tie
@@ -18,13 +15,13 @@ lent s = let x = s .args in buffersOf (x .run .now) (x .spare .now) (x .memory .
 
 returns : tie.Need-returns
 returns c =
-    let s = c .before .before .before .before .before .before .before in
-    let r = c .before .before .read-order in
-    unread-promise (s .args .text .now) (lent s) (r .result .number) (r .result .order) (r .ensures) (c .if1 .taken)
+    let s = c .before .before .before .before .before .before .before .before in
+    let r = c .before .before .before .read-order in
+    unread-promise (s .args .text .now) (lent s) (r .result .number) (r .result .order) (r .result .z .0) (r .ensures) (c .if1 .taken)
 
 is-taken : (c : tie.Else1)
-    → Taken (c .before .before .before .before .before .before .before .args .text .now) (c .before .before .read-order .result .order)
-is-taken c = read-taken (c .before .before .read-order .ensures) (c .if1 .left)
+    → Taken (c .before .before .before .before .before .before .before .before .args .text .now) (c .before .before .before .read-order .result .order)
+is-taken c = read-taken (c .before .before .before .read-order .ensures) (c .if1 .left)
 
 area-bytes-requires : tie.Need-area-bytes-requires
 area-bytes-requires c κs = is-taken (c .before .before) .inside
@@ -38,14 +35,14 @@ abbrev else1 : tie.After-memory-bytes → tie.Else1
 else1 a = a .before .before .before .before
 
 abbrev start : tie.After-memory-bytes → tie.Start
-start a = else1 a .before .before .before .before .before .before .before
+start a = else1 a .before .before .before .before .before .before .before .before
 
 measured : (a : tie.After-memory-bytes)
-    → Measured (start a .args .text .now) (else1 a .before .before .read-order .result .order) (a .before .area-bytes .result) (a .memory-bytes .result)
+    → Measured (start a .args .text .now) (else1 a .before .before .before .read-order .result .order) (a .before .area-bytes .result) (a .memory-bytes .result)
 measured a =
-    let r = else1 a .before .before .read-order in
+    let r = else1 a .before .before .before .read-order in
     record {
-      read = subst (λ (k : ℕ). Reads (start a .args .text .now) k (r .result .order)) (else1 a .if1 .left) (r .ensures);
+      read = read-none (r .ensures) (else1 a .if1 .left);
       is-run = a .before .area-bytes .ensures;
       is-memory = a .memory-bytes .ensures;
     }

@@ -21,12 +21,12 @@ inside k = sym (k .before .in-limits .ensures) ∙ not-false (k .before .in-limi
 returns : tie.Need-returns
 returns c =
     let none = sym (c .before .before .before .first-line .ensures) ∙ c .before .enum-told .given .1 in
-    rw (c .refused .ensures .0, c .refused .ensures .1) (reads-no-first-line _ none)
+    rw (c .refused .ensures) (reads-no-first-line _ none)
 
 returns-2 : tie.Need-returns-2
 returns-2 c =
     let out = sym (c .before .before .in-limits .ensures) ∙ not-true (c .before .before .in-limits .result) (c .before .if1 .taken) in
-    rw (c .refused2 .ensures .0, c .refused2 .ensures .1) (reads-outside _ _ _ (line-is (c .before .before .before .before)) out)
+    rw (c .refused2 .ensures) (reads-outside _ _ _ (line-is (c .before .before .before .before)) out)
 
 rest-at-requires : tie.Need-rest-at-requires
 rest-at-requires c κs = limits→allowed _ (inside c) .n-high
@@ -35,30 +35,32 @@ returns-3 : tie.Need-returns-3
 returns-3 c =
     let k = c .before .before .before in
     let r = c .before .before .rest-at in
-    reads-no-rest _ _ _ (line-is (k .before .before .before)) (inside k) (r .result .number) _ (c .if2 .taken) (r .ensures)
+    rw (r .ensures .1) (reads-no-rest _ _ _ (line-is (k .before .before .before)) (inside k) (r .result .number) _ (c .if2 .taken) (r .ensures .0))
 
-is-singular-requires : tie.Need-is-singular-requires
-is-singular-requires c κs = limits→allowed _ (inside (c .before .before .before .before .before .before .before)) .n-high
+kernel-requires : tie.Need-kernel-requires
+kernel-requires c κs = limits→allowed _ (inside (c .before .before .before .before .before .before .before)) .n-high
 
 returns-4 : tie.Need-returns-4
 returns-4 c =
-    let k = c .before .before .before .before .before .before .before .before .before .before in
-    let r = c .before .before .before .before .before .before .before .before .before .rest-at in
-    let found = rw (c .before .before .before .before .before .before .before .if2 .left) at (r .ensures) in
-    rw (c .refused3 .ensures .0, c .refused3 .ensures .1)
-    (reads-singular _ _ _ (line-is (k .before .before .before)) (inside k) (r .result .order) found
-    (sym (c .before .before .is-singular .ensures) ∙ c .before .if3 .taken))
+    let k = c .before .before .before .before .before .before .before .before .before .before .before in
+    let r = c .before .before .before .before .before .before .before .before .before .before .rest-at in
+    let found = rw (c .before .before .before .before .before .before .before .before .if2 .left) at (r .ensures .0) in
+    let z = c .before .before .before .kernel in
+    let wide = c .before .wide .ensures in
+    rw (c .refused3 .ensures)
+    (reads-singular _ _ _ (line-is (k .before .before .before)) (inside k) (r .result .order) found _ (wide ∙ z .ensures)
+    (λ e. c .before .before .if3 .taken (sym wide ∙ e)))
 
 returns-5 : tie.Need-returns-5
 returns-5 c =
     let k = c .before .before .before .before .before .before .before .before .before in
     let r = c .before .before .before .before .before .before .before .before .rest-at in
     let zero = c .before .before .before .before .before .before .if2 .left in
-    rw zero
-    (reads-taken _ _ _ (line-is (k .before .before .before)) (inside k) (r .result .order) (rw zero at (r .ensures))
-    (sym (c .before .is-singular .ensures) ∙ c .if3 .left))
+    rw (zero, r .ensures .1)
+    (reads-taken _ _ _ (line-is (k .before .before .before)) (inside k) (r .result .order) (rw zero at (r .ensures .0))
+    (sym (c .before .kernel .ensures) ∙ c .if3 .left))
 
 pub read-order-spec : {M : Type 1} → statement M
 read-order-spec =
     tie.close (tie.spec (λ c κs. search needs) (λ c. search needs) (λ c. search needs) (λ c κs. search needs) returns (λ c κs. search needs)
-    (λ c κs. search needs) returns-2 rest-at-requires returns-3 (λ c. search needs) is-singular-requires (λ c κs. search needs) returns-4 returns-5)
+    (λ c κs. search needs) returns-2 rest-at-requires returns-3 (λ c. search needs) kernel-requires (λ c κs. search needs) (λ c κs. search needs) returns-4 returns-5)

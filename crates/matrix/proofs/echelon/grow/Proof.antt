@@ -16,13 +16,12 @@ returns c =
 
 returns-2 : tie.Need-returns-2
 returns-2 c =
-    let a = c .before .before .before .before .before .before .before .args in
-    let r = c .before .before .before .before .before .reduce in
-    let unit = c .before .before .before .before .before .before .power .ensures in
-    grown-entry (echelonOf (a .e)) (a .j) (a .column) (r .result .left) (c .lowest .result) (r .result .tag) (r .ensures .0) (search needs)
-    (c .lowest .ensures) (r .ensures .1 ∙ ap (λ (x : ℕ). bitXor x (usedOf (echelonOf (a .e)) (a .column))) unit)
+    let a = c .before .before .before .before .args in
+    let r = c .before .before .reduce in
+    let unit = c .before .before .before .power .ensures in
+    grown-entry (echelonOf (a .e)) _ (a .j) (a .column) (r .result .left) (r .result .tag) (c .with-entry .ensures) (r .ensures .0) (search needs)
+    (r .ensures .1 ∙ ap (λ (x : ℕ). bitXor x (usedOf (echelonOf (a .e)) (a .column))) unit)
 
 pub grow-spec : {M : Type 1} → statement M
 grow-spec =
-    tie.close (tie.spec (λ c κs. search needs) (λ c κs. search needs) returns (λ c. search needs) (λ c. search needs) (λ c κs. search needs)
-    (λ c. search needs) (λ c. search needs) (λ c. search needs) (λ c. search needs) (λ c. search needs) returns-2)
+    tie.close (tie.spec (λ c κs. search needs) (λ c κs. search needs) returns (λ c κs. search needs) returns-2)

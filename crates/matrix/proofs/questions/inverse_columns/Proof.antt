@@ -11,7 +11,7 @@ use Rattle.matrix.specs.Echelon.{echelonOf}
 use Rattle.algebra.specs.Matrix.{columns, inverse}
 use Rattle.algebra.proofs.Built.{built-count}
 use Rattle.algebra.proofs.Columns.{columns-length}
-use Rattle.algebra.proofs.Questions.{inverse-built}
+use Rattle.algebra.proofs.Questions.{columns-whole, inverse-built}
 use Rattle.matrix.proofs.Filled.{filled, filled-all, filled-next}
 use Rattle.matrix.proofs.questions.inverse_columns.Statement.{statement}
 use Rattle.matrix.proofs.questions.inverse_columns.Tie as tie
@@ -34,7 +34,7 @@ loop-again c =
     let e = c .before .before .before .before .eliminate in
     let l = c .before .before .before .loop in
     let long = columns-length n back in
-    let column = inverse-built ROWS n (s .args .rows .now) _ (s .pre .0) (omega arith) (k .ensures) _ (e .ensures) (s .pre .1) (l .j) (search needs) in
+    let column = inverse-built ROWS n (s .args .rows .now) _ (s .pre .0) (omega arith) (columns-whole ROWS n (s .args .rows .now) _ (k .ensures)) _ (e .ensures) (s .pre .1) (l .j) (search needs) in
     let tag = c .reduce .ensures .1 ∙ ap (usedOf (echelonOf (e .result))) (c .before .power .ensures) ∙ column in
     (search needs, filled-next ROWS (columns n back) (omega arith) (l .j) _ _ (omega arith) (l .inv .1) tag)
 

@@ -1,14 +1,17 @@
 -- `order::address::source_of` meets its contract: the number alone with a refusal, the source with 0. Assumes nothing.
 use mathlib.Core.Path.{_≡_, ap, sym, _∙_}
+use mathlib.Core.Bool.{not}
+use Prim.Native.Nat.{ℕ}
 use native.Mathlib.Omega.{arith}
 use borrow.Author.Needs.{needs}
+use lib.Dec.{eqb}
 use lib.Pow.{pow-pos}
 use Rattle.bank.specs.Checks.{refuse}
 use Rattle.bank.proofs.Limits.{limits→allowed}
-use Rattle.order.specs.Order.{formNumber}
+use Rattle.order.specs.Order.{formNumber, zWith}
 use Rattle.order.specs.Address.{questionNumber}
-use Rattle.order.proofs.Asked.{in-word, number-form, number-solved, solvable, source-given, source-refused, source-solved}
-use Rattle.order.proofs.Judged.{form-none}
+use Rattle.order.proofs.Asked.{in-word, number-form, number-solved, solvable, source-given, source-refused, source-solved, z-solved}
+use Rattle.order.proofs.Judged.{form-none, form-z}
 use Rattle.order.proofs.address.source_of.Statement.{statement}
 use Rattle.order.proofs.address.source_of.Tie as tie
 
@@ -25,13 +28,15 @@ number-is c =
     let solve = c .before .before .before .solve in
     let power = c .before .before .before .before .before .before .before .power in
     c .refuse2 .ensures
-    ∙ ap (refuse (solve .result .singular) 3) (c .before .refuse .ensures)
+    ∙ ap (refuse (not (eqb (solve .result .kernel) 0)) 3) (c .before .refuse .ensures)
     ∙ number-solved _ _ _ (power .ensures) (formed (inside c)) _ (solve .ensures)
 
 returns : tie.Need-returns
 returns c =
+    let order = c .before .before .args .order in
     let e = c .before .form-number .ensures in
-    source-refused _ _ _ (e ∙ sym (number-form _ _ (λ z. c .if1 .taken (e ∙ z)))) (c .if1 .taken)
+    let number = number-form order (c .before .before .args .y .0) (λ z. c .if1 .taken (e ∙ z)) in
+    source-refused _ _ _ _ (e ∙ sym number) (sym (ap (λ (k : ℕ). zWith k order) number ∙ form-z order)) (c .if1 .taken)
 
 power-requires : tie.Need-power-requires
 power-requires c κs = let ok = limits→allowed _ (form-none _ (formed (c .before .before)) .0) in omega (arith, ok .n-high)
@@ -50,7 +55,11 @@ solve-requires c κs =
     solvable _ _ _ (c .before .before .before .power .ensures) (formed (c .before .before .before .before .before .before))
 
 returns-2 : tie.Need-returns-2
-returns-2 c = source-refused _ _ _ (number-is (c .before)) (c .if2 .taken)
+returns-2 c =
+    let r = c .before .before in
+    let solve = r .before .before .before .solve in
+    let power = r .before .before .before .before .before .before .before .power in
+    source-refused _ _ _ _ (number-is r) (c .wide .ensures ∙ z-solved _ _ _ (power .ensures) (formed (inside r)) _ (solve .ensures)) (c .before .if2 .taken)
 
 returns-3 : tie.Need-returns-3
 returns-3 c =
@@ -58,9 +67,9 @@ returns-3 c =
     let solve = r .before .before .before .solve in
     let power = r .before .before .before .before .before .before .before .power in
     let none = sym (number-is r) ∙ c .before .if2 .left in
-    source-given _ _ _ none (c .wide .ensures ∙ source-solved _ _ _ (power .ensures) (formed (inside r)) _ (solve .ensures) none)
+    source-given _ _ _ none (c .wide2 .ensures ∙ source-solved _ _ _ (power .ensures) (formed (inside r)) _ (solve .ensures) none)
 
 pub source-of-spec : {M : Type 1} → statement M
 source-of-spec =
     tie.close (tie.spec (λ c κs. search needs) returns power-requires rem-low cast-low (λ c. search needs) solve-requires (λ c κs. search needs)
-    (λ c κs. search needs) returns-2 (λ c κs. search needs) returns-3)
+    (λ c κs. search needs) (λ c κs. search needs) returns-2 (λ c κs. search needs) returns-3)

@@ -5,16 +5,17 @@ use Prim.Native.Nat.{ℕ}
 use lib.Bits.{bitXor}
 use Rattle.algebra.specs.Matrix.{target}
 use Rattle.order.specs.Address.{questionNumber}
+use Rattle.order.specs.declared.Verdict.{Verdict}
 use Rattle.order.proofs.Asked.{settled, in-word, target-refused, target-given}
 use Rattle.order.proofs.address.target_of.Statement.{statement}
 use Rattle.order.proofs.address.target_of.Tie as tie
 
 returns : tie.Need-returns
-returns c = target-refused _ _ _ (c .before .question .ensures) (c .if1 .taken)
+returns c = target-refused _ _ _ (c .before .before .before .question .ensures) (c .if1 .taken)
 
 -- nothing is refused
-none : (c : tie.Else1) → questionNumber (c .before .before .args .order) (c .before .before .args .x .0) ≡ 0
-none c = sym (c .before .question .ensures) ∙ c .if1 .left
+none : (c : tie.Else1) → let a = c .before .before .before .before .args in questionNumber (a .order) (a .x .0) ≡ 0
+none c = sym (ap (λ (v : Verdict). v .number) (c .before .before .before .question .ensures)) ∙ c .if1 .left
 
 cast-from : tie.Need-cast-from
 cast-from c = let ok = settled _ _ (none (c .before .before .before)) in record { fits = in-word _ _ (ok .0) (ok .1) }
@@ -27,7 +28,7 @@ unfolding target
 returns-2 c =
     let i = c .before .before .before .before .before .before .before .before in
     target-given _ _ _ (none i)
-    (c .wide .ensures ∙ ap (λ (y : ℕ). bitXor y (i .before .before .args .order .complement)) (c .before .before .apply .ensures))
+    (c .wide .ensures ∙ ap (λ (y : ℕ). bitXor y (i .before .before .before .before .args .order .complement)) (c .before .before .apply .ensures))
 
 pub target-of-spec : {M : Type 1} → statement M
 target-of-spec = tie.close (tie.spec (λ c κs. search needs) returns cast-from (λ c. search needs) apply-requires (λ c κs. search needs) returns-2)

@@ -1,0 +1,83 @@
+// The trials of z: why an order is singular, as each call shows it.
+use crate::orders;
+use crate::plans;
+use bank::Geometry;
+use bank::ROWS;
+use matrix::rows::identity;
+use order::Order;
+
+// What is said of an order, and of an address asked both ways.
+fn shown(asked: &[u8], o: Order, x: u64) {
+    orders::judged(asked, o);
+    orders::forward(b"  forwards", o, x);
+    orders::backward(b"  backwards", o, x);
+    plans::planned(b"  planning", o);
+}
+
+fn two(r0: u32, r1: u32) -> Order {
+    orders::order(orders::geometry(2, 0, 0, 1, 8), r0, r1, 0, 0, 0)
+}
+
+fn four(r0: u32, r1: u32, r2: u32, r3: u32, c: u32) -> Order {
+    orders::order(orders::g(), r0, r1, r2, r3, c)
+}
+
+// Small ones, asked at 0, at another address, and at N.
+pub(crate) fn small() {
+    shown(b"n = 2, rows 11, 11", two(3, 3), 0);
+    shown(b"n = 2, zero rows", two(0, 0), 4);
+    shown(b"three rows that sum to zero", four(3, 5, 6, 8, 9), 16);
+    shown(b"0100 0010 0001 0000", four(2, 4, 8, 0, 0), 5);
+    shown(b"0000 1000 0100 0010", four(0, 1, 2, 4, 0), 5);
+    shown(b"1100 0011 and zero rows", four(3, 12, 0, 0, 15), 16);
+    shown(b"a zero column", four(1, 2, 4, 1, 0), 1);
+    shown(b"G, a row of 16, singular", four(16, 3, 3, 3, 0), 0);
+}
+
+// An order of ROWS rows.
+fn large(rows: [u32; ROWS]) -> Order {
+    Order {
+        geometry: Geometry {
+            n: ROWS as u32,
+            b: 6,
+            d: 2,
+            m: 14,
+            r: 8,
+        },
+        rows,
+        complement: 1,
+    }
+}
+
+// Row i is the unit row i; but one row is another.
+fn all_but(at: usize, row: u32) -> [u32; ROWS] {
+    let mut rows = identity(ROWS);
+    if at < ROWS {
+        rows[at] = row;
+    }
+    rows
+}
+
+// Each row has its own bit and the next one, the last none: only all ones are sent to zero.
+fn neighbours() -> [u32; ROWS] {
+    let mut rows = identity(ROWS);
+    let mut i = 1;
+    while i < ROWS {
+        rows[i - 1] = rows[i - 1] | rows[i];
+        i += 1;
+    }
+    rows[ROWS - 1] = 0;
+    rows
+}
+
+// z of one digit and of ten, where an address has as many bits as a word.
+pub(crate) fn wide() {
+    shown(b"n = 32, row 0 is zero", large(all_but(0, 0)), 4294967296);
+    shown(b"n = 32, row 31 is zero", large(all_but(31, 0)), 4294967295);
+    shown(
+        b"n = 32, row 31 is all rows",
+        large(all_but(31, 2147483647)),
+        0,
+    );
+    shown(b"n = 32, neighbours", large(neighbours()), 4294967296);
+}
