@@ -1,4 +1,4 @@
--- Why has a delivery one outcome, why is the run in tray order only one, and why does no byte change where no record need move? Assumes nothing.
+-- Why has a delivery one outcome, what does a refusal show, why is the run in tray order only one, and why does no byte change where no record need move? Assumes nothing.
 use mathlib.Core.Path.{_≡_, refl, sym, ap, ap₂, _∙_, subst}
 use mathlib.Core.Bool.{Bool, cond, false, true}
 use mathlib.Core.List.{List, _++_}
@@ -10,6 +10,8 @@ use lib.Dec.{eqb}
 use lib.ListN.{length, getD, drop, take-append-drop}
 use lib.Seq.{ext-getD, getD-drop, getD-take}
 use Rattle.bank.specs.Limits.{ROWS}
+use Rattle.bank.specs.declared.Address.{Address}
+use Rattle.bank.specs.declared.Geometry.{Geometry}
 use Rattle.bank.specs.Geometry.{records}
 use Rattle.order.specs.declared.Order.{Order}
 use Rattle.order.specs.Order.{judgement}
@@ -19,10 +21,12 @@ use Rattle.moving.specs.Call.{Moment, begun, ran}
 use Rattle.moving.specs.Step.{Buffers, areaBytes, buffersOf, memoryBytes}
 use Rattle.moving.proofs.Calls.{run-none}
 use Rattle.plan.specs.Answer.{plannedFor}
-use Rattle.reading.specs.Reading.{Reads, noOrder}
+use Rattle.reading.specs.Reading.{Reads, Whole, noOrder}
 use Rattle.reading.proofs.Main.{read-taken}
 use Rattle.demands.specs.Delivers.{areaNamed}
+use Rattle.demands.specs.Numbers.{Inside}
 use Rattle.demands.specs.Ours.{ours}
+use Rattle.demands.specs.Shows.{Shows}
 use Rattle.demands.specs.Still.{NoSteps, StillOrder}
 use Rattle.demands.proofs.Answers.{ours-answers}
 use Rattle.demands.proofs.Still.{ours-still}
@@ -80,6 +84,17 @@ one text v answer answer′ w w′ p p′ =
       a .answered ∙ (λ i. answerBy (e .0 i) (e .1 i) (e .2 i) v) ∙ sym (b .answered),
       a .bytes ∙ ap₂ (λ (k : ℕ) (o : Order). bytesBy k o v) (e .0) (e .1) ∙ sym (b .bytes),
     )
+
+-- ---- a refusal by 3 shows why
+
+shows : (text : List ℕ) (v : Buffers) (k : ℕ) (z : Address) (w : Buffers) → DeliveryPromise text v (Refused k z) w → k ≡ 3
+    → (g : Geometry) (written : Order) → Inside text g → Whole text g written → Shows written (z .0)
+shows text v k z w (unread j y r) e = ours-answers .explained .read-3 text (suc j) noOrder y r e
+shows text v k z w (other-length order r e ne) q = absurd (omega (arith, q))
+
+else-0 : (text : List ℕ) (v : Buffers) (k : ℕ) (z : Address) (w : Buffers) → DeliveryPromise text v (Refused k z) w → (k ≡ 3 → ⊥) → z .0 ≡ 0
+else-0 text v k z w (unread j y r) f = ours-answers .explained .read-else text (suc j) noOrder y r f
+else-0 text v k z w (other-length order r e ne) f = refl
 
 -- ---- one order: two runs of N records of r bytes are equal where their records are
 
@@ -143,4 +158,4 @@ untouched text order r still v answer w p =
     a .bytes ∙ ap₂ (λ (k : ℕ) (o : Order). bytesBy k o v) (e .0) (e .1) ∙ bytes-leave order (t .room) (t .judged) still v
 
 pub delivery-outcome : Outcome
-delivery-outcome = record { one = one; one-order = one-order; untouched = untouched }
+delivery-outcome = record { one = one; shows = shows; else-0 = else-0; one-order = one-order; untouched = untouched }

@@ -1,21 +1,30 @@
--- Has a delivery one outcome, is the run in tray order only one, and what is left where no record need move? Assumes nothing.
+-- Has a delivery one outcome, does a refusal show why, is the run in tray order only one, and what is left where no record need move? Assumes nothing.
 use mathlib.Core.Path.{_≡_}
 use mathlib.Core.List.{List}
 use Prim.Native.Nat.{ℕ}
 use lib.ListN.{length}
 use Rattle.bank.specs.Limits.{ROWS}
+use Rattle.bank.specs.declared.Address.{Address}
+use Rattle.bank.specs.declared.Geometry.{Geometry}
 use Rattle.order.specs.declared.Order.{Order}
 use Rattle.order.specs.Order.{judgement}
 use Rattle.moving.specs.Step.{Buffers, areaBytes}
-use Rattle.reading.specs.Reading.{Reads}
+use Rattle.reading.specs.Reading.{Reads, Whole}
+use Rattle.demands.specs.Numbers.{Inside}
+use Rattle.demands.specs.Shows.{Shows}
 use Rattle.demands.specs.Still.{StillOrder}
 use Rattle.delivery.specs.declared.Delivery.{Delivery}
+use Rattle.delivery.specs.declared.Delivery.the-variants.{Refused}
 use Rattle.delivery.specs.Delivery.{InTrayOrder, DeliveryPromise}
 
 pub record Outcome : Type 0 where
   -- the promise admits one answer, and one end of every lent byte
   pub one : (text : List ℕ) (v : Buffers) (answer answer′ : Delivery) (w w′ : Buffers)
       → DeliveryPromise text v answer w → DeliveryPromise text v answer′ w′ → (answer ≡ answer′) × (w ≡ w′)
+  -- refused by 3 it shows why, of the order that the text is; with every other number z is 0
+  pub shows : (text : List ℕ) (v : Buffers) (k : ℕ) (z : Address) (w : Buffers) → DeliveryPromise text v (Refused k z) w → k ≡ 3
+      → (g : Geometry) (written : Order) → Inside text g → Whole text g written → Shows written (z .0)
+  pub else-0 : (text : List ℕ) (v : Buffers) (k : ℕ) (z : Address) (w : Buffers) → DeliveryPromise text v (Refused k z) w → (k ≡ 3 → ⊥) → z .0 ≡ 0
   -- an accepted order sets a run of N·R bytes in one order only
   pub one-order : (order : Order) → length (order .rows) ≡ ROWS → judgement order ≡ 0 → (before after after′ : List ℕ)
       → length before ≡ areaBytes (order .geometry) → InTrayOrder order before after → InTrayOrder order before after′ → after ≡ after′

@@ -8,7 +8,6 @@ use native.Mathlib.Omega.{arith}
 use lib.Bits.{bitXor, xor-lt, xor-self, xor-zero-l, xor-zero-r}
 use lib.Pow.{pow-pos}
 use Rattle.algebra.proofs.Digits.{xor-cancel}
-use Rattle.algebra.proofs.Linear.{apply-zero}
 use Rattle.algebra.proofs.Search.{le-or-lt}
 use Rattle.algebra.proofs.Singular.{kernel-killed, kernel-least, target-inj, target-stays}
 use Rattle.algebra.specs.Matrix.{applied, kernel}
@@ -23,10 +22,8 @@ use Rattle.plan.specs.Answer.{plannedFor}
 use Rattle.reading.specs.Reading.{Reads, Whole}
 use Rattle.reading.specs.Reading.Reads.{no-first-line, outside, no-rest, singular, taken}
 use Rattle.reading.proofs.Main.{same-order}
-use Rattle.demands.specs.Mover.{Mover}
 use Rattle.demands.specs.Numbers.{Inside}
 use Rattle.demands.specs.Ours.{ours}
-use Rattle.demands.specs.Sends.{AddressOf, Share}
 use Rattle.demands.specs.Shows.{Explains, GoesWith, Shows, SitesAgree}
 
 module _ (order : Order) where

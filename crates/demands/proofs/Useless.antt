@@ -55,7 +55,7 @@ use Rattle.demands.specs.Sends.{Sends}
 use Rattle.demands.specs.Shows.{Explains}
 use Rattle.demands.specs.Still.{CostsNothing}
 use Rattle.demands.specs.Useless.{Broken, alwaysPasses, beginsAtOne, inventsTotals, movesAll, movesNothing, otherArea, plansWithoutC, readsWholeLoad}
-use Rattle.demands.specs.Useless.{readsWithoutZ, refusesAll, refusesNoPasses, refusesRuns, refusesSteps, showsAlways, showsGreatest, showsNothing, showsTurned, stepsMoveNothing, takesIdentityAlone, toItself, toZero, wrapsSize, wrapsTotals}
+use Rattle.demands.specs.Useless.{readsWithoutZ, refusesAll, refusesNoPasses, refusesRuns, refusesSteps, showsAlways, showsGreatest, showsTurned, stepsMoveNothing, takesIdentityAlone, toItself, toZero, wrapsSize, wrapsTotals}
 use Rattle.demands.proofs.Answers.{ours-answers}
 use Rattle.demands.proofs.Delivers.{ours-delivers, own-passes}
 use Rattle.demands.proofs.Possible.{possible}

@@ -12,12 +12,12 @@ use Rattle.demands.specs.Mover.{Mover}
 use Rattle.demands.specs.Numbers.{Inside}
 use Rattle.demands.specs.Sends.{AddressOf, Share}
 
--- z shares its target with 0, nothing smaller and nonzero does, and so do x and x xor z for every x
+-- z is an address other than 0 that shares its target with 0, and so do x and x xor z for every x; nothing smaller and nonzero does
 pub record Shows (order : Order) (z : ℕ) : Type 0 where
   pub nonzero : 0 < z
   pub with-0 : Share order z 0
-  pub smallest : (y : ℕ) → 0 < y → y < z → sentTo order y ≡ sentTo order 0 → ⊥
   pub in-pairs : (x : ℕ) → AddressOf order x → Share order x (bitXor x z)
+  pub smallest : (y : ℕ) → 0 < y → y < z → sentTo order y ≡ sentTo order 0 → ⊥
 
 -- what goes with a number that is given for an order: with 3 such a z, and 0 with every other
 pub record GoesWith (order : Order) (number z : ℕ) : Type 0 where

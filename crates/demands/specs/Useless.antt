@@ -225,11 +225,11 @@ promisesNothing = stepping totalSteps resultArea freshState (λ plan m k r w. Un
 
 -- ---- others that say 3, and don't show why
 
--- it shows nothing: 0 with every number
+-- planning, it shows nothing: 0 with every number
 abbrev pub showsNothing : Mover
 showsNothing = planning (λ order. record { number = judgement order; plan = plannedFor order .plan; z = record { 0 = 0 } })
 
--- it shows the greatest address that A sends to zero, and not the least
+-- asked forwards, it shows the greatest address that A sends to zero, and not the least
 abbrev greatest : ℕ → List ℕ → ℕ
 greatest n rows = 2 ^ n - 1 - least (λ k. kills rows (2 ^ n - 1 - k)) (2 ^ n)
 
@@ -242,7 +242,7 @@ showsGreatest =
       z = record { 0 = cond (eqb (questionNumber order x) 3) (greatest (order .geometry .n) (matrixOf order)) 0 };
     })
 
--- it shows what the matrix turned round sends to zero: rows for columns
+-- judging, it shows what the matrix turned round sends to zero: rows for columns
 abbrev pub showsTurned : Mover
 showsTurned =
     answering
@@ -250,11 +250,11 @@ showsTurned =
     record { number = judgement order; z = record { 0 = cond (eqb (judgement order) 3) (kernel n (columns n (matrixOf order))) 0 } })
     targetOf
 
--- it shows the same z with every number
+-- judging, it shows the same z with every number
 abbrev pub showsAlways : Mover
 showsAlways = answering (λ order. record { number = judgement order; z = record { 0 = zWith 3 order } }) targetOf
 
--- its reading shows nothing
+-- reading, it shows nothing
 abbrev pub readsWithoutZ : Mover
 readsWithoutZ = writing (λ text k order z. (y : ℕ) × Reads text k order y × (z ≡ 0)) written roomAfter
 

@@ -3,4 +3,4 @@
 pub mod vector; // vector.rt: bits, parities, sums
 pub mod rows; // rows.rt: a matrix applied to an address, its columns, products
 pub mod echelon; // echelon.rt: the elimination
-pub mod questions; // questions.rt: singular, the source of an address, the inverse, spills
+pub mod questions; // questions.rt: what is sent to zero, the source of an address, the inverse, spills

@@ -30,7 +30,7 @@ pub struct Solved {
     pub source: u32,
 }
 
-// The one elimination: up to the first column that is the sum of some to its left, for no smaller vector is sent to zero.
+// One elimination, up to the first column that is a sum of columns to its left. Its tag is the least vector sent to zero: the columns before it have no sum that is zero.
 fn sweep(rows: &[u32; ROWS], n: usize) -> Swept
     requires { ⌜ n ≤ ROWS ⌝ }
     ensures { λ r. ⌜ (r .kernel ≡ kernel n (take n (now (rows .entry)))) × Complete n (now (rows .entry)) r ⌝ }
