@@ -31,11 +31,12 @@ abbrev pub reversal : List ℕ
 reversal = 8 ∷ 4 ∷ 2 ∷ 1 ∷ []
 
 -- reversal, identity with c = 15, Gray code, the exchange of two pairs, two rows exchanged;
--- then rows 11, 11, zero rows, and three rows that sum to zero
+-- then rows 11, 11, zero rows, and three rows that sum to zero; a matrix that isn't the same turned round, and one whose rank is less by two
 abbrev pub examples : List Example
 examples =
     example 4 reversal 0 true 4 1 8 ∷ example 4 reversal 0 true 4 3 12 ∷ example 4 reversal 0 true 4 6 6
     ∷ example 4 (1 ∷ 2 ∷ 4 ∷ 8 ∷ []) 15 true 4 5 10 ∷ example 4 (3 ∷ 6 ∷ 12 ∷ 8 ∷ []) 0 true 4 5 7
     ∷ example 4 (4 ∷ 8 ∷ 1 ∷ 2 ∷ []) 0 true 4 1 4
     ∷ example 2 (2 ∷ 1 ∷ []) 0 true 2 1 2 ∷ example 2 (3 ∷ 3 ∷ []) 0 false 1 3 0 ∷ example 2 (0 ∷ 0 ∷ []) 0 false 0 1 0
-    ∷ example 4 (3 ∷ 5 ∷ 6 ∷ 8 ∷ []) 9 false 3 7 9 ∷ []
+    ∷ example 4 (3 ∷ 5 ∷ 6 ∷ 8 ∷ []) 9 false 3 7 9
+    ∷ example 4 (2 ∷ 4 ∷ 8 ∷ 0 ∷ []) 0 false 3 1 0 ∷ example 4 (3 ∷ 12 ∷ 0 ∷ 0 ∷ []) 0 false 2 3 0 ∷ []
