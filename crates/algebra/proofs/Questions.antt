@@ -1,4 +1,4 @@
--- What does an elimination answer: singular, the source of an address, whether a pass spills? Assumes nothing.
+-- What does an elimination answer: what is sent to zero, the source of an address, whether a pass spills? Assumes nothing.
 use mathlib.Core.Path.{_∙_, _≡_, ap, ap₂, subst, sym}
 use mathlib.Core.Bool.{false, true}
 use mathlib.Core.List.{List, [], _++_, _∷_}

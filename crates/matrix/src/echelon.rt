@@ -72,19 +72,13 @@ pub(crate) fn with_entry(e: Echelon, left: u32, tag: u32) -> Echelon
     requires { ⌜ e .count < ROWS ⌝ }
     ensures { λ r. ⌜ echelonOf r ≡ withEntry (echelonOf e) left tag ⌝ }
 {
-    let mut vectors = e.vectors;
-    let mut pivots = e.pivots;
-    let mut tags = e.tags;
+    let mut out = e;
     let count = e.count;
-    vectors[count] = left;
-    pivots[count] = lowest(left);
-    tags[count] = tag;
-    Echelon {
-        vectors,
-        pivots,
-        tags,
-        count: count + 1,
-    }
+    out.vectors[count] = left;
+    out.pivots[count] = lowest(left);
+    out.tags[count] = tag;
+    out.count = count + 1;
+    out
 }
 
 // The entries after column j, too.

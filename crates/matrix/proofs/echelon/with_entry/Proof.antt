@@ -9,7 +9,7 @@ use Rattle.matrix.proofs.echelon.with_entry.Tie as tie
 
 returns : tie.Need-returns
 returns c =
-    let a = c .before .before .before .before .args in
+    let a = c .before .args in
     let e = a .e in
     ap {B = Echelon} (λ (q : ℕ). record {
       vectors = set (e .vectors) (e .count) (a .left);
