@@ -35,6 +35,10 @@ isIdentity n rows = not (anyBelow (λ i. not (eqb (getD rows i 0) (getD (identit
 unfoldable pub columns : ℕ → List ℕ → List ℕ
 columns n rows = map (applied rows) (unitVectors n 0)
 
+-- column j is no sum of the columns to its left
+unfoldable pub marked : List ℕ → ℕ → Bool
+marked cols j = not (anyBelow (λ s. eqb (comb cols s) (getD cols j 0)) (2 ^ j))
+
 -- A sends z, which isn't zero, to zero
 unfoldable pub kills : List ℕ → ℕ → Bool
 kills rows z = ltb 0 z && eqb (applied rows z) 0
@@ -46,10 +50,6 @@ kernel n rows = firstOf (kills rows) (2 ^ n)
 -- A, of n columns, sends some nonzero vector to zero
 unfoldable pub singular : ℕ → List ℕ → Bool
 singular n rows = anyBelow (kills rows) (2 ^ n)
-
--- column j is no sum of the columns to its left
-unfoldable pub marked : List ℕ → ℕ → Bool
-marked cols j = not (anyBelow (λ s. eqb (comb cols s) (getD cols j 0)) (2 ^ j))
 
 -- 1 where a test holds, and 0 where it fails
 abbrev pub oneIf : Bool → ℕ
