@@ -15,9 +15,9 @@ use running::can_run;
 use running::total_steps;
 
 // The last address of a bank with n = 32, and one more.
-const LAST: u64 = 4294967295;
+pub(crate) const LAST: u64 = 4294967295;
 
-const SIZE: u64 = 4294967296;
+pub(crate) const SIZE: u64 = 4294967296;
 
 // An order with n = 32.
 fn order(rows: [u32; ROWS], b: u32, d: u32, m: u32, r: u32) -> Order {

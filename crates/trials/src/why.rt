@@ -1,4 +1,6 @@
 // The trials of z: why an order is singular, as each call shows it.
+use crate::limits::LAST;
+use crate::limits::SIZE;
 use crate::orders;
 use crate::plans;
 use bank::Geometry;
@@ -72,12 +74,12 @@ fn neighbours() -> [u32; ROWS] {
 
 // z of one digit and of ten, where an address has as many bits as a word.
 pub(crate) fn wide() {
-    shown(b"n = 32, row 0 is zero", large(all_but(0, 0)), 4294967296);
-    shown(b"n = 32, row 31 is zero", large(all_but(31, 0)), 4294967295);
+    shown(b"n = 32, row 0 is zero", large(all_but(0, 0)), SIZE);
+    shown(b"n = 32, row 31 is zero", large(all_but(31, 0)), LAST);
     shown(
         b"n = 32, row 31 is all rows",
         large(all_but(31, 2147483647)),
         0,
     );
-    shown(b"n = 32, neighbours", large(neighbours()), 4294967296);
+    shown(b"n = 32, neighbours", large(neighbours()), SIZE);
 }

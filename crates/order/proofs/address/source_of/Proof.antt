@@ -1,4 +1,4 @@
--- `order::address::source_of` meets its contract: the number alone with a refusal, the source with 0. Assumes nothing.
+-- `order::address::source_of` meets its contract: number and z with a refusal, the source with 0. Assumes nothing.
 use mathlib.Core.Path.{_≡_, ap, sym, _∙_}
 use mathlib.Core.Bool.{not}
 use Prim.Native.Nat.{ℕ}
