@@ -8,11 +8,13 @@ use lib.ListN.{length}
 use Rattle.bank.specs.Limits.{ROWS}
 use Rattle.bank.specs.declared.Geometry.{Geometry}
 use Rattle.order.specs.declared.Order.{Order}
-use Rattle.order.specs.Order.{judgement}
+use Rattle.order.specs.Order.{judgement, matrixOf}
 use Rattle.planning.specs.declared.Plan.{Plan}
+use Rattle.planning.specs.Stored.{planFor}
 use Rattle.planning.proofs.Running.{sound→can-run}
 use Rattle.plan.specs.declared.make.Planned.{Planned}
 use Rattle.plan.specs.Answer.{plannedFor}
+use Rattle.plan.proofs.Answered.{planned-taken}
 use Rattle.plan.proofs.Main.{Makes, made-accepted}
 use Rattle.running.specs.Total.{totalSteps, resultArea}
 use Rattle.moving.specs.Step.{Buffers, areaBytes, buffersOf, buffersFit}
@@ -99,22 +101,25 @@ module _ (order : Order) (room : length (order .rows) ≡ ROWS) (taken : judgeme
 
   -- ---- the steps of the plan that was made were sent, each more than once
 
-  module _ (planned : Planned) (made : planned ≡ plannedFor order) (again : ℕ) (w : Buffers)
-      (sent : w ≡ askedInTurn (planned .plan) again (totalSteps (planned .plan)) (begun v) .buffers) where
+  module _ (p : Plan) (made : p ≡ planFor (order .geometry) (matrixOf order) (order .complement)) (again : ℕ) (w : Buffers)
+      (sent : w ≡ askedInTurn p again (totalSteps p) (begun v) .buffers) where
+    is-plan : p ≡ plan
+    is-plan = made ∙ sym (ap (λ (a : Planned). a .plan) (planned-taken order taken))
+
     sent-all : w ≡ allSteps order v
     sent-all =
-        subst (λ (a : Planned). w ≡ askedInTurn (a .plan) again (totalSteps (a .plan)) (begun v) .buffers) made sent
+        subst (λ (a : Plan). w ≡ askedInTurn a again (totalSteps a) (begun v) .buffers) is-plan sent
         ∙ sent-is-run plan v again (makes .sound-plan) plan-fitting
 
-    set-by : (k : ℕ) → resultArea (planned .plan) ≡ k → buffersOf (areaNamed k w) (w .area1) (w .memory) ≡ setInOrder order v
+    set-by : (k : ℕ) → resultArea p ≡ k → buffersOf (areaNamed k w) (w .area1) (w .memory) ≡ setInOrder order v
     unfolding setInOrder
-    set-by k e = rw (← e, made) (ap (λ (u : Buffers). buffersOf (areaNamed (resultArea plan) u) (u .area1) (u .memory)) sent-all)
+    set-by k e = rw (← e, is-plan) (ap (λ (u : Buffers). buffersOf (areaNamed (resultArea plan) u) (u .area1) (u .memory)) sent-all)
 
-    pub sent-set : SetBy order v w (resultArea (planned .plan))
+    pub sent-set : SetBy order v w (resultArea p)
     unfolding areaNamed
     sent-set =
         record {
           fits = subst (Fits (order .geometry)) (sym sent-all) end-fits;
           first = set-by 1;
-          zeroth = λ ne. set-by 0 (omega (arith, result-small (planned .plan)));
+          zeroth = λ ne. set-by 0 (omega (arith, result-small p));
         }

@@ -24,11 +24,14 @@ use Rattle.plan.specs.Answer.{plannedFor}
 use Rattle.reading.specs.Reading.{Reads, Whole, noOrder}
 use Rattle.reading.proofs.Main.{read-taken}
 use Rattle.demands.specs.Delivers.{areaNamed}
+use Rattle.demands.specs.Mover.{Mover}
 use Rattle.demands.specs.Numbers.{Inside}
 use Rattle.demands.specs.Ours.{ours}
-use Rattle.demands.specs.Shows.{Shows}
+use Rattle.demands.specs.Shows.{Explains, Gives, GoesWith}
+use Rattle.demands.specs.Shows.Gives.{reading}
 use Rattle.demands.specs.Still.{NoSteps, StillOrder}
 use Rattle.demands.proofs.Answers.{ours-answers}
+use Rattle.demands.proofs.Shows.{one-with}
 use Rattle.demands.proofs.Still.{ours-still}
 use Rattle.delivery.specs.declared.Delivery.{Delivery}
 use Rattle.delivery.specs.declared.Delivery.the-variants.{Done, Refused, NoRoom}
@@ -87,13 +90,18 @@ one text v answer answer′ w w′ p p′ =
 
 -- ---- a refusal by 3 shows why
 
-shows : (text : List ℕ) (v : Buffers) (k : ℕ) (z : Address) (w : Buffers) → DeliveryPromise text v (Refused k z) w → k ≡ 3
-    → (g : Geometry) (written : Order) → Inside text g → Whole text g written → Shows written (z .0)
-shows text v k z w (unread j y r) e = ours-answers .explained .read-3 text (suc j) noOrder y r e
-shows text v k z w (other-length order r e ne) q = absurd (omega (arith, q))
+shows : (text : List ℕ) (v : Buffers) (k : ℕ) (z : Address) (w : Buffers) → DeliveryPromise text v (Refused k z) w
+    → (g : Geometry) (written : Order) → Inside text g → Whole text g written → GoesWith written k (z .0)
+shows text v k z w (unread j y r) g written i h = ours-answers .explained .of-order written (suc j) y (reading text g i h (suc j) noOrder y r)
+shows text v k z w (other-length order r e ne) g written i h = record { with-3 = λ q. absurd (omega (arith, q)); else-0 = λ f. refl }
+
+agrees : (M : Mover) → Explains M → (text : List ℕ) (v : Buffers) (k : ℕ) (z : Address) (w : Buffers) → DeliveryPromise text v (Refused k z) w
+    → (g : Geometry) (written : Order) → Inside text g → Whole text g written → (z′ : ℕ) → Gives M written k z′ → z .0 ≡ z′
+agrees M e text v k z w p g written i h z′ gives =
+    one-with written k (z .0) z′ (shows text v k z w p g written i h) (e .of-order written k z′ gives)
 
 else-0 : (text : List ℕ) (v : Buffers) (k : ℕ) (z : Address) (w : Buffers) → DeliveryPromise text v (Refused k z) w → (k ≡ 3 → ⊥) → z .0 ≡ 0
-else-0 text v k z w (unread j y r) f = ours-answers .explained .read-else text (suc j) noOrder y r f
+else-0 text v k z w (unread j y r) f = ours-answers .explained .of-text text (suc j) noOrder y r f
 else-0 text v k z w (other-length order r e ne) f = refl
 
 -- ---- one order: two runs of N records of r bytes are equal where their records are
@@ -158,4 +166,4 @@ untouched text order r still v answer w p =
     a .bytes ∙ ap₂ (λ (k : ℕ) (o : Order). bytesBy k o v) (e .0) (e .1) ∙ bytes-leave order (t .room) (t .judged) still v
 
 pub delivery-outcome : Outcome
-delivery-outcome = record { one = one; shows = shows; else-0 = else-0; one-order = one-order; untouched = untouched }
+delivery-outcome = record { one = one; shows = shows; else-0 = else-0; agrees = agrees; one-order = one-order; untouched = untouched }

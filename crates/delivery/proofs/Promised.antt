@@ -33,7 +33,7 @@ unread-promise text v (suc k) order z r ne =
 -- a text that isn't refused has no z
 pub read-none : {text : List ℕ} {k : ℕ} {order : Order} {z : ℕ} → Reads text k order z → k ≡ 0 → Reads text 0 order 0
 read-none {text} {k} {order} {z} r e =
-    let none = ours-answers .explained .read-else text k order z r (λ q. omega (arith, e, q)) in
+    let none = ours-answers .explained .of-text text k order z r (λ q. omega (arith, e, q)) in
     subst (λ (j : ℕ). Reads text j order 0) e (subst (Reads text k order) none r)
 
 -- a text that is read, and its order's run is of s bytes, its memory of k

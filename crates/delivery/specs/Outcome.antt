@@ -10,21 +10,25 @@ use Rattle.order.specs.declared.Order.{Order}
 use Rattle.order.specs.Order.{judgement}
 use Rattle.moving.specs.Step.{Buffers, areaBytes}
 use Rattle.reading.specs.Reading.{Reads, Whole}
+use Rattle.demands.specs.Mover.{Mover}
 use Rattle.demands.specs.Numbers.{Inside}
-use Rattle.demands.specs.Shows.{Shows}
+use Rattle.demands.specs.Shows.{Explains, Gives, GoesWith}
 use Rattle.demands.specs.Still.{StillOrder}
 use Rattle.delivery.specs.declared.Delivery.{Delivery}
 use Rattle.delivery.specs.declared.Delivery.the-variants.{Refused}
 use Rattle.delivery.specs.Delivery.{InTrayOrder, DeliveryPromise}
 
-pub record Outcome : Type 0 where
+pub record Outcome : Type 1 where
   -- the promise admits one answer, and one end of every lent byte
   pub one : (text : List ℕ) (v : Buffers) (answer answer′ : Delivery) (w w′ : Buffers)
       → DeliveryPromise text v answer w → DeliveryPromise text v answer′ w′ → (answer ≡ answer′) × (w ≡ w′)
-  -- refused by 3 it shows why, of the order that the text is; with every other number z is 0
-  pub shows : (text : List ℕ) (v : Buffers) (k : ℕ) (z : Address) (w : Buffers) → DeliveryPromise text v (Refused k z) w → k ≡ 3
-      → (g : Geometry) (written : Order) → Inside text g → Whole text g written → Shows written (z .0)
+  -- refused, it shows why, as every call does of the order that the text is; a text that is no order's has no z either
+  pub shows : (text : List ℕ) (v : Buffers) (k : ℕ) (z : Address) (w : Buffers) → DeliveryPromise text v (Refused k z) w
+      → (g : Geometry) (written : Order) → Inside text g → Whole text g written → GoesWith written k (z .0)
   pub else-0 : (text : List ℕ) (v : Buffers) (k : ℕ) (z : Address) (w : Buffers) → DeliveryPromise text v (Refused k z) w → (k ≡ 3 → ⊥) → z .0 ≡ 0
+  -- so another site, whichever mover it has and whichever call it makes, is given the same z with the same number
+  pub agrees : (M : Mover) → Explains M → (text : List ℕ) (v : Buffers) (k : ℕ) (z : Address) (w : Buffers) → DeliveryPromise text v (Refused k z) w
+      → (g : Geometry) (written : Order) → Inside text g → Whole text g written → (z′ : ℕ) → Gives M written k z′ → z .0 ≡ z′
   -- an accepted order sets a run of N·R bytes in one order only
   pub one-order : (order : Order) → length (order .rows) ≡ ROWS → judgement order ≡ 0 → (before after after′ : List ℕ)
       → length before ≡ areaBytes (order .geometry) → InTrayOrder order before after → InTrayOrder order before after′ → after ≡ after′

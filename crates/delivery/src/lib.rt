@@ -13,7 +13,7 @@ use bank::power;
 use bank::wide;
 use blocks::bytes::copy_into;
 use order::Order;
-use plan::make::make_plan;
+use plan::make::plan_for;
 use reading::read_order;
 use running::result_area;
 use sending::progress::Progress;
@@ -42,7 +42,7 @@ fn memory_bytes(g: Geometry) -> u64
     power(g.m) * wide(g.r)
 }
 
-// Every step of the order's plan is sent, and the result, where it lies in area 1, goes to area 0 too.
+// Every step of the order's plan is sent, and the result, where it lies in area 1, goes to area 0 too. The order was judged when it was read.
 fn set_in_order(
     order: Order,
     again: u64,
@@ -56,8 +56,8 @@ fn set_in_order(
     ensures { λ _. ⌜ buffersOf (now (area0 .exit)) (now (area1 .exit)) (now (memory .exit))
         ≡ setInOrder order (buffersOf (now (area0 .entry)) (now (area1 .entry)) (now (memory .entry))) ⌝ }
 {
-    let planned = make_plan(order);
-    let plan = planned.plan;
+    let rows = order.rows;
+    let plan = plan_for(order.geometry, rows, order.complement);
     send_all(plan, again, progress, area0, area1, memory);
     if result_area(plan) == 1 {
         copy_into(area0, area1);

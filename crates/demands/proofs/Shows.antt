@@ -8,7 +8,7 @@ use native.Mathlib.Omega.{arith}
 use lib.Bits.{bitXor, xor-lt, xor-self, xor-zero-l, xor-zero-r}
 use lib.Pow.{pow-pos}
 use Rattle.algebra.proofs.Digits.{xor-cancel}
-use Rattle.algebra.proofs.Search.{le-or-lt}
+use Rattle.algebra.proofs.Search.{le-or-lt, same-or}
 use Rattle.algebra.proofs.Singular.{kernel-killed, kernel-least, target-inj, target-stays}
 use Rattle.algebra.specs.Matrix.{applied, kernel}
 use Rattle.bank.specs.declared.Geometry.{Geometry}
@@ -24,7 +24,8 @@ use Rattle.reading.specs.Reading.Reads.{no-first-line, outside, no-rest, singul
 use Rattle.reading.proofs.Main.{same-order}
 use Rattle.demands.specs.Numbers.{Inside}
 use Rattle.demands.specs.Ours.{ours}
-use Rattle.demands.specs.Shows.{Explains, GoesWith, Shows, SitesAgree}
+use Rattle.demands.specs.Shows.{Explains, Gives, GoesWith, Shows, SitesAgree}
+use Rattle.demands.specs.Shows.Gives.{judging, forwards, backwards, planning, reading}
 
 module _ (order : Order) where
   abbrev n : ℕ
@@ -74,6 +75,7 @@ module _ (order : Order) where
   back-with y a p = subst (λ (f : Found). GoesWith order (f .number) (f .z)) (sym p) (asked-with y (foundFor order y .z) refl)
 
 -- ---- a text
+
 -- the one order that the text is
 read-shows : (text : List ℕ) (k : ℕ) (order : Order) (z : ℕ) → Reads text k order z → k ≡ 3
     → (g : Geometry) (written : Order) → Inside text g → Whole text g written → Shows written z
@@ -92,23 +94,31 @@ no-z text k order z (no-rest g b i f) h = refl
 no-z text k order z (singular g o b i w j) h = absurd (h refl)
 no-z text k order z (taken g o b i w j) h = refl
 
-pub ours-explains : Explains ours
+-- ---- each call
+
+of-order : (order : Order) (k z : ℕ) → Gives ours order k z → GoesWith order k z
 unfolding targetOf plannedFor
-ours-explains =
-    record {
-      judging = λ order. goes-with order (judgement order) (zWith (judgement order) order) (λ e. e) refl;
-      forwards = λ order x. asked-with order x (zWith (questionNumber order x) order) refl;
-      backwards = back-with;
-      planning = λ order. goes-with order (judgement order) (zWith (judgement order) order) (λ e. e) refl;
-      read-3 = read-shows;
-      read-else = no-z;
-    }
+of-order order k z judging = goes-with order (judgement order) (zWith (judgement order) order) (λ e. e) refl
+of-order order k z (forwards x) = asked-with order x (zWith (questionNumber order x) order) refl
+of-order order k z (backwards y a p) = back-with order y a p
+of-order order k z planning = goes-with order (judgement order) (zWith (judgement order) order) (λ e. e) refl
+of-order order k z (reading text g i w k′ answer z′ r) =
+    record { with-3 = λ e. read-shows text k′ answer z′ r e g order i w; else-0 = no-z text k′ answer z′ r }
+
+pub ours-explains : Explains ours
+ours-explains = record { of-order = of-order; of-text = no-z }
 
 -- ---- no other address shows it
+
 one-shown : (order : Order) (y z : ℕ) → Shows order y → Shows order z → y ≡ z
 one-shown order y z s t =
     ⊎-elim (λ (h : y ≤ z). ⊎-elim (λ q. q) (λ (l : y < z). absurd (t .smallest y (s .nonzero) l (s .with-0 .shared))) (eq-or-lt-of-le h))
     (λ (l : z < y). absurd (s .smallest z (t .nonzero) l (t .with-0 .shared))) (le-or-lt y z)
 
+-- and nothing else goes with the number
+pub one-with : (order : Order) (k y z : ℕ) → GoesWith order k y → GoesWith order k z → y ≡ z
+one-with order k y z a b =
+    ⊎-elim (λ (e : k ≡ 3). one-shown order y z (a .with-3 e) (b .with-3 e)) (λ (f : k ≡ 3 → ⊥). a .else-0 f ∙ sym (b .else-0 f)) (same-or k 3)
+
 pub sites-agree : SitesAgree
-sites-agree M M′ h h′ order e e′ = one-shown order _ _ (h .judging order .with-3 e) (h′ .judging order .with-3 e′)
+sites-agree M M′ h h′ order k z z′ a b = one-with order k z z′ (h .of-order order k z a) (h′ .of-order order k z′ b)

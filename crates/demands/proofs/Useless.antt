@@ -52,7 +52,8 @@ use Rattle.demands.specs.Possible.{flipOrder, stillOrder, zeroOrder}
 use Rattle.demands.specs.OneStep.{MoveMade, ReadStep}
 use Rattle.demands.specs.Repeats.{quiet}
 use Rattle.demands.specs.Sends.{Sends}
-use Rattle.demands.specs.Shows.{Explains}
+use Rattle.demands.specs.Shows.{Explains, Gives}
+use Rattle.demands.specs.Shows.Gives.{judging, forwards, planning, reading}
 use Rattle.demands.specs.Still.{CostsNothing}
 use Rattle.demands.specs.Useless.{Broken, alwaysPasses, beginsAtOne, inventsTotals, movesAll, movesNothing, otherArea, plansWithoutC, readsWholeLoad}
 use Rattle.demands.specs.Useless.{readsWithoutZ, refusesAll, refusesNoPasses, refusesRuns, refusesSteps, showsAlways, showsGreatest, showsTurned, stepsMoveNothing, takesIdentityAlone, toItself, toZero, wrapsSize, wrapsTotals}
@@ -179,30 +180,30 @@ no-greatest : Explains showsGreatest → ⊥
 unfolding ones leastFrom least anyBelow parity applied target kills
 no-greatest h =
     let three = number-order zeros 0 (λ e. omega (arith, zeros-three, e)) ∙ zeros-three in
-    let shown = h .forwards zeros 0 .with-3 three in
+    let shown = h .of-order zeros _ _ (forwards 0) .with-3 three in
     (rw three at shown) .smallest 1 (omega arith) (omega arith) refl
 
 no-turned : Explains showsTurned → ⊥
 unfolding ones leastFrom least anyBelow firstOf parity unitVectors columns applied target kernel kills
 no-turned h =
-    let shown = h .judging turned .with-3 turned-three in
+    let shown = h .of-order turned _ _ judging .with-3 turned-three in
     (rw turned-three at shown) .smallest 1 (omega arith) (omega arith) refl
 
 no-always : Explains showsAlways → ⊥
 unfolding ones leastFrom least anyBelow firstOf parity applied kernel kills zWith
-no-always h = let none = h .judging strayed .else-0 (λ e. omega (arith, strayed-two, e)) in omega (arith, none)
+no-always h = let none = h .of-order strayed _ _ judging .else-0 (λ e. omega (arith, strayed-two, e)) in omega (arith, none)
 
 -- the text of zero rows is read as 3
 no-silent-text : Explains readsWithoutZ → ⊥
 unfolding orderText inLimits
 no-silent-text h =
-    let gives = ours-sends zeros refl .gives-3 .0 zeros-three in
-    let form : badForm zeros ≡ false = gives .0 .1 in
+    let form : badForm zeros ≡ false = ours-sends zeros refl .gives-3 .0 zeros-three .0 .1 in
     let rest = rowLines 2 (matrixOf zeros) ++ line (bits 2 0) in
     let whole : Whole (orderText zeros) bank zeros = record { geometry = refl; room = refl; form = form; is = refl } in
     let begins : Begins (orderText zeros) bank = record { n-short = omega arith; b-short = omega arith; d-short = omega arith; m-short = omega arith; r-short = omega arith; rest = rest; is = refl } in
     let read = read-singular bank zeros begins refl whole zeros-three in
-    omega (arith, h .read-3 (orderText zeros) 3 noOrder 0 (zWith 3 zeros, read, refl) refl bank zeros (begins, refl) whole .nonzero)
+    let gives : Gives readsWithoutZ zeros 3 0 = reading (orderText zeros) bank (begins, refl) whole 3 noOrder 0 (zWith 3 zeros, read, refl) in
+    omega (arith, h .of-order zeros 3 0 gives .with-3 refl .nonzero)
 
 -- ---- each of them
 
@@ -247,7 +248,7 @@ broken =
       refusesRuns-fails = λ h. omega (arith, no-calls refusesRuns h .runs-on 8 (record { number = 7; count = 0; state = freshState }) start (refl, refl));
       plansWithoutC-fails = no-dropped-complement;
       alwaysPasses-fails = no-pass-for-nothing;
-      showsNothing-fails = λ h. omega (arith, h .planning zeros .with-3 zeros-three .nonzero);
+      showsNothing-fails = λ h. omega (arith, h .of-order zeros _ _ planning .with-3 zeros-three .nonzero);
       showsGreatest-fails = no-greatest;
       showsTurned-fails = no-turned;
       showsAlways-fails = no-always;

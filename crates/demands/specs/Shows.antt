@@ -24,19 +24,24 @@ pub record GoesWith (order : Order) (number z : ℕ) : Type 0 where
   pub with-3 : number ≡ 3 → Shows order z
   pub else-0 : (number ≡ 3 → ⊥) → z ≡ 0
 
--- so it is in every call that gives 3
-pub record Explains (M : Mover) : Type 0 where
-  pub judging : (order : Order) → GoesWith order (M .judges order .number) (M .judges order .z .0)
-  pub forwards : (order : Order) (x : ℕ) → GoesWith order (M .sends order x .number) (M .sends order x .z .0)
-  pub backwards : (order : Order) (y : ℕ) (a : Source) → M .finds order y a → GoesWith order (meaningOf a .number) (meaningOf a .z)
-  pub planning : (order : Order) → GoesWith order (M .plans order .number) (M .plans order .z .0)
-  -- of a text, z is that of the order that the text is
-  pub read-3 : (text : List ℕ) (k : ℕ) (order : Order) (z : ℕ) → M .reads text k order z → k ≡ 3
-      → (g : Geometry) (written : Order) → Inside text g → Whole text g written → Shows written z
-  pub read-else : (text : List ℕ) (k : ℕ) (order : Order) (z : ℕ) → M .reads text k order z → (k ≡ 3 → ⊥) → z ≡ 0
+-- a call gives this number and this z for the order: judging it, asked for an address forwards or backwards, planning, or reading the
+-- text that is the order's
+pub data Gives (M : Mover) (order : Order) : ℕ → ℕ → Type 0 where
+  judging : Gives M order (M .judges order .number) (M .judges order .z .0)
+  forwards : (x : ℕ) → Gives M order (M .sends order x .number) (M .sends order x .z .0)
+  backwards : (y : ℕ) (a : Source) → M .finds order y a → Gives M order (meaningOf a .number) (meaningOf a .z)
+  planning : Gives M order (M .plans order .number) (M .plans order .z .0)
+  reading : (text : List ℕ) (g : Geometry) → Inside text g → Whole text g order
+      → (k : ℕ) (answer : Order) (z : ℕ) → M .reads text k answer z → Gives M order k z
 
--- two sites agree, whichever movers they have: where one says 3 with its z and the other 3 with its own, it is the same z
+-- so it is in every call; and a text that is no order's has no z either
+pub record Explains (M : Mover) : Type 0 where
+  pub of-order : (order : Order) (k z : ℕ) → Gives M order k z → GoesWith order k z
+  pub of-text : (text : List ℕ) (k : ℕ) (order : Order) (z : ℕ) → M .reads text k order z → (k ≡ 3 → ⊥) → z ≡ 0
+
+-- two sites agree, whichever movers they have and whichever calls they make: where they are given the same number for an order, it is
+-- with the same z
 abbrev pub SitesAgree : Type 1
 SitesAgree =
-    (M M′ : Mover) → Explains M → Explains M′ → (order : Order) → M .judges order .number ≡ 3 → M′ .judges order .number ≡ 3
-    → M .judges order .z .0 ≡ M′ .judges order .z .0
+    (M M′ : Mover) → Explains M → Explains M′
+    → (order : Order) (k z z′ : ℕ) → Gives M order k z → Gives M′ order k z′ → z ≡ z′

@@ -77,8 +77,8 @@ fn is_still(rows: &[u32; ROWS], n: usize, c: u32) -> bool
     is_identity(rows, n)
 }
 
-// The plan of the order A, c: no passes where no record need move.
-fn plan_for(g: Geometry, rows: [u32; ROWS], c: u32) -> Plan
+// The plan of an order A, c that was judged and is taken: no passes where no record need move.
+pub fn plan_for(g: Geometry, rows: [u32; ROWS], c: u32) -> Plan
     requires { ⌜ (inLimits g ≡ true) × (singular (g .n) (take (g .n) rows) ≡ false) ⌝ }
     ensures { λ r. ⌜ r ≡ planFor g (take (g .n) rows) c ⌝ }
 {

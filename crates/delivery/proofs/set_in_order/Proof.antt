@@ -2,6 +2,7 @@
 use mathlib.Core.Path.{sym, ap, _∙_}
 use mathlib.Core.List.{List}
 use Prim.Native.Nat.{ℕ}
+use Rattle.order.proofs.Accepted.{judgement→accepted}
 use Rattle.moving.specs.Step.{Buffers, buffersOf}
 use Rattle.running.specs.Total.{resultArea}
 use Rattle.delivery.proofs.InOrder.{SetBy, sent-set}
@@ -19,12 +20,17 @@ lent c = let x = start c .args in buffersOf (x .area0 .now) (x .area1 .now) (x .
 abbrev left : tie.After-send-all → Buffers
 left c = let l = c .send-all .last .1 .1 .1 in buffersOf (l .0) (l .1 .0) (l .1 .1 .0)
 
-sent : (c : tie.After-send-all)
-    → SetBy (start c .args .order) (lent c) (left c) (resultArea (c .before .before .before .before .before .make-plan .result .plan))
+-- an order that is taken is one that `plan_for` asks for
+plan-for-requires : tie.Need-plan-for-requires
+plan-for-requires c κs =
+    let s = c .before .before .before .before in
+    let k = judgement→accepted (s .args .order) (s .pre .0 .0) in (k .inside, k .regular)
+
+sent : (c : tie.After-send-all) → SetBy (start c .args .order) (lent c) (left c) (resultArea (c .before .before .before .before .plan-for .result))
 sent c =
     let s = start c in
-    let m = c .before .before .before .before .before .make-plan in
-    sent-set (s .args .order) (s .pre .0 .1) (s .pre .0 .0) (lent c) (s .pre .1) (m .result) (m .ensures) (s .args .again) (left c) (c .send-all .ensures)
+    let p = c .before .before .before .before .plan-for in
+    sent-set (s .args .order) (s .pre .0 .1) (s .pre .0 .0) (lent c) (s .pre .1) (p .result) (p .ensures) (s .args .again) (left c) (c .send-all .ensures)
 
 copy-into-requires : tie.Need-copy-into-requires
 copy-into-requires c κs =
@@ -42,5 +48,5 @@ returns-2 c =
 
 pub set-in-order-spec : {M : Type 1} → statement M
 set-in-order-spec =
-    tie.close (tie.spec (λ c κs. search needs) (λ c κs. search needs) (λ c κs. search needs) copy-into-requires (λ c. search needs) (λ c. search needs)
+    tie.close (tie.spec plan-for-requires (λ c κs. search needs) (λ c κs. search needs) copy-into-requires (λ c. search needs) (λ c. search needs)
     (λ c. search needs) returns (λ c. search needs) (λ c. search needs) (λ c. search needs) returns-2)

@@ -1,9 +1,7 @@
 -- `listing::refusal::write_refusal` meets its contract: one line, and room for it. Assumes nothing.
-use mathlib.Core.Path.{_≡_}
 use mathlib.Core.List.{[], _∷_, _++_}
 use native.Mathlib.Omega.{arith}
 use borrow.Author.Needs.{needs}
-use lib.ListN.{length}
 use Rattle.text.proofs.Decimals.{line-short}
 use Rattle.listing.specs.Listing.{refusedWord}
 use Rattle.listing.proofs.Refused.{line-written, other-line, three-line}
@@ -13,26 +11,22 @@ use Rattle.listing.proofs.refusal.write_refusal.Tie as tie
 put-line-requires : tie.Need-put-line-requires
 put-line-requires c κs =
     let a = c .before .before .before .args in
-    let long : length (a .room .now) ≡ 31 = search needs in
     omega (arith, line-short (refusedWord ++ (51 ∷ 32 ∷ [])) (a .z .0))
 
 returns : tie.Need-returns
 returns c =
     let a = c .before .before .before .before .args in
-    let long : length (a .room .now) ≡ 31 = search needs in
     line-written _ _ _ _ _ (three-line (a .number) (a .z .0) (c .before .before .before .if1 .taken))
     (omega (arith, line-short (refusedWord ++ (51 ∷ 32 ∷ [])) (a .z .0))) (c .put-line .ensures)
 
 put-line-requires-2 : tie.Need-put-line-requires-2
 put-line-requires-2 c κs =
     let a = c .before .before .before .args in
-    let long : length (a .room .now) ≡ 31 = search needs in
     omega (arith, line-short refusedWord (a .number))
 
 returns-2 : tie.Need-returns-2
 returns-2 c =
     let a = c .before .before .before .before .args in
-    let long : length (a .room .now) ≡ 31 = search needs in
     line-written _ _ _ _ _ (other-line (a .number) (a .z .0) (c .before .before .before .if1 .left)) (omega (arith, line-short refusedWord (a .number)))
     (c .put-line2 .ensures)
 
