@@ -30,7 +30,7 @@ module _ (plan : Plan) (k : Runs (routeOf plan)) (p : ℕ) (h : p < plan .count)
   -- a step of pass p, and some steps
   pub move-same : (s : ℕ) (v : Buffers) → passOf (routeOf plan) s ≡ p → moveBy (tablesOf plan p) s v ≡ move (routeOf plan) s v
   unfolding moveBy tablesOf tablesFor move routeOf loadOf tierOf
-  move-same s v e = rw (phase-same (routeOf plan) s, pass-same plan k p h, e)
+  move-same s v e = rw (phase-same (routeOf plan) (runs-allowed (routeOf plan) k) s, pass-same plan k p h, e)
 
   moves-same : (s n : ℕ) (v : Buffers) → ((i : ℕ) → i < n → passOf (routeOf plan) (s + i) ≡ p)
       → movesFrom (moveBy (tablesOf plan p)) s n v ≡ movesFrom (move (routeOf plan)) s n v

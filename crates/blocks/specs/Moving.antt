@@ -5,42 +5,40 @@ use mathlib.Core.Bool.{true}
 use mathlib.Core.List.{List}
 use Prim.Native.Nat.{ℕ, _+_, _*_, _<_, _≤_}
 use lib.ListN.{length}
-use Rattle.bank.specs.declared.Geometry.{Geometry}
-use Rattle.bank.specs.Geometry.{inLimits, loads, memorySize, records, tiers}
+use Rattle.bank.specs.Geometry.{loads, memorySize, records, tiers}
 use Rattle.planning.specs.declared.Plan.{Plan}
 use Rattle.planning.specs.Pass.{total}
 use Rattle.planning.specs.Stored.{routeOf}
-use Rattle.moving.specs.Bytes.{copied}
-use Rattle.moving.specs.Step.{Buffers, buffersFit, byPhase, readFrom, readMove, readTakes, writeFrom, writeMove, writeTakes}
+use Rattle.moving.specs.Bytes.{copied, zeroed}
+use Rattle.moving.specs.Step.{Buffers, blankMove, blankTakes, buffersFit, byPhase, readFrom, readMove, readTakes, writeFrom, writeMove, writeTakes}
 use Rattle.tables.specs.Tables.{Prepared, passFor}
 use Rattle.tables.specs.Pace.{standingAt}
 use Rattle.tables.specs.declared.tables.Tables.{Tables}
 use Rattle.tables.specs.declared.pace.Standing.{Standing}
 use Rattle.planning.specs.Inner.{Runs}
-
--- a read that is one of the load's, on an area and a memory of their lengths
-pub record ReadReady (g : Geometry) (load tier : ℕ) (area mem : List ℕ) : Type 0 where
-  pub inside : inLimits g ≡ true
-  pub load-in : load < loads g
-  pub tier-in : tier < tiers g
-  pub area-long : length area ≡ records g * g .r
-  pub memory-long : length mem ≡ memorySize g * g .r
+use Rattle.stripes.specs.Stripe.{ReadReady}
 
 -- a write that is one of the load's, on an area and a memory of their lengths
 pub record WriteReady (t : Tables) (load tier : ℕ) (area mem : List ℕ) : Type 0 where
   pub prepared : Prepared t
   pub in-load : ReadReady (t .geometry) load tier area mem
 
--- the area written after a step that stands there: a read leaves it as it is
+-- the area read after a step that stands there: a blank alone changes it
+abbrev pub fromAfter : Tables → Standing → List ℕ → List ℕ
+fromAfter t at from = byPhase (at .phase) from from (zeroed (blankTakes (t .geometry) (at .load) (at .tier)) (t .geometry .r) from)
+
+-- the area written after a step that stands there: a write alone changes it
 abbrev pub toAfter : Tables → Standing → List ℕ → List ℕ → List ℕ
 toAfter t at to mem =
     byPhase (at .phase) to
     (copied (writeTakes (t .geometry) (passFor t) (at .load) (at .tier)) (writeFrom (t .geometry) (passFor t)) (t .geometry .r) mem to)
+    to
 
 -- memory after a step that stands there: a write leaves it as it is
 abbrev pub memoryAfter : Tables → Standing → List ℕ → List ℕ → List ℕ
 memoryAfter t at from mem =
     byPhase (at .phase) (copied (readTakes (t .geometry) (at .tier)) (readFrom (t .geometry) (at .load)) (t .geometry .r) from mem) mem
+    (zeroed (readTakes (t .geometry) (at .tier)) (t .geometry .r) mem)
 
 -- what a step that stands there asks of the area read, the area written and memory
 pub record BetweenReady (t : Tables) (at : Standing) (from to mem : List ℕ) : Type 0 where
@@ -56,6 +54,7 @@ abbrev pub moveAt : Tables → Standing → Buffers → Buffers
 moveAt t at v =
     byPhase (at .phase) (readMove (t .geometry) (t .pass) (at .load) (at .tier) v)
     (writeMove (t .geometry) (passFor t) (t .pass) (at .load) (at .tier) v)
+    (blankMove (t .geometry) (t .pass) (at .load) (at .tier) v)
 
 -- the move of step s
 unfoldable pub moveBy : Tables → ℕ → Buffers → Buffers

@@ -1,54 +1,27 @@
-// One read, and one write: a block on each drive.
+// One write, and the move of a step.
 ghost use mathlib.Core.Path.{_≡_};
 ghost use Prim.Native.Nat.{ℕ, _+_, _*_, _%_, _≤_, _<_};
 ghost use lib.ListN.{length};
 ghost use Rattle.moving.specs.Bytes.{copied};
-ghost use Rattle.moving.specs.Step.{buffersOf, readFrom, readTakes, writeFrom, writeTakes};
+ghost use Rattle.moving.specs.Step.{buffersOf, writeFrom, writeTakes};
 ghost use Rattle.blocks.specs.Places.{placeBy, inBlock, onDrives, blockPlace, drivePlace};
-ghost use Rattle.blocks.specs.Moving.{BetweenReady, MoveReady, ReadReady, WriteReady, moveBy, toAfter, memoryAfter};
+ghost use Rattle.blocks.specs.Moving.{BetweenReady, MoveReady, WriteReady, moveBy, fromAfter, toAfter, memoryAfter};
 ghost use Rattle.tables.specs.Tables.{passFor};
-ghost use Rattle.moving.specs.Laid.{laid};
-use crate::bytes::copy_part;
-use crate::bytes::fill_block;
-use crate::bytes::flip;
+use crate::block::fill_block;
+use crate::block::flip;
 use bank::Address;
 use bank::Block;
-use bank::Geometry;
 use bank::Step;
 use bank::power;
 use planning::Phase;
+use stripes::stripe::blank_step;
+use stripes::stripe::read_step;
 use tables::pace::Standing;
 use tables::pace::standing_of;
 use tables::tables::Tables;
 use tables::tables::first_block;
 use tables::tables::first_place;
 use tables::tables::goes_to;
-
-// The block of size bytes goes to memory's index at.
-fn read_block(memory: &mut [u8], at: usize, area: &[u8], block: Block, size: usize)
-    requires { ⌜ (at + size ≤ length (now memory)) × (block .0 * size + size ≤ length (now area)) ⌝ }
-    ensures { λ _. ⌜ now (memory .exit) ≡ laid (now (memory .entry)) at size (now (area .entry)) (block .0 * size) ⌝ }
-{
-    let o = block.0 as usize * size;
-    let e = o + size;
-    copy_part(memory, at, &area[o..e]);
-}
-
-// A block for each drive, from the first on: they lie side by side in the area and in memory.
-fn read_drives(memory: &mut [u8], at: usize, area: &[u8], first: Block, size: usize, drives: usize)
-    requires { ⌜ (at + drives * size ≤ length (now memory)) × (first .0 * size + drives * size ≤ length (now area)) × (0 < size) ⌝ }
-    ensures { λ _. ⌜ now (memory .exit) ≡ laid (now (memory .entry)) at (drives * size) (now (area .entry)) (first .0 * size) ⌝ }
-{
-    let mut q = 0;
-    let mut done = 0;
-    while q < drives {
-        let p = at + done;
-        let block = Block(first.0 + q as u64);
-        read_block(memory, p, area, block, size);
-        done += size;
-        q += 1;
-    }
-}
 
 // The block of count records is lent on, and filled from memory.
 fn write_block(
@@ -107,20 +80,6 @@ fn write_drives(
     }
 }
 
-// The read of a load's tier: on each drive, one block of the area goes to its place in memory.
-fn read_step(memory: &mut [u8], area: &[u8], g: Geometry, load: u64, tier: u64)
-    requires { ⌜ ReadReady g load tier (now area) (now memory) ⌝ }
-    ensures { λ _. ⌜ now (memory .exit) ≡ copied (readTakes g tier) (readFrom g load) (g .r) (now (area .entry)) (now (memory .entry)) ⌝ }
-{
-    let drives = power(g.d);
-    let size = power(g.b) * g.r as u64;
-    let stripe = tier * drives;
-    let blocks = power(g.m - g.b);
-    let first = Block(load * blocks + stripe);
-    let at = (stripe * size) as usize;
-    read_drives(memory, at, area, first, size as usize, drives as usize);
-}
-
 // The write of a load's tier: on each drive, one block of the area is filled from memory, which stays.
 fn write_step(area: &mut [u8], memory: &[u8], t: Tables, load: u64, tier: u64)
     requires { ⌜ WriteReady t load tier (now area) (now memory) ⌝ }
@@ -151,10 +110,10 @@ fn write_step(area: &mut [u8], memory: &[u8], t: Tables, load: u64, tier: u64)
     );
 }
 
-// A step of a pass that reads the one area and writes the other.
-fn move_between(from: &[u8], to: &mut [u8], memory: &mut [u8], t: Tables, at: Standing)
+// A step of a pass that reads, and may blank, the one area and writes the other.
+fn move_between(from: &mut [u8], to: &mut [u8], memory: &mut [u8], t: Tables, at: Standing)
     requires { ⌜ BetweenReady t at (now from) (now to) (now memory) ⌝ }
-    ensures { λ _. ⌜ (now (to .exit) ≡ toAfter t at (now (to .entry)) (now (memory .entry)))
+    ensures { λ _. ⌜ (now (from .exit) ≡ fromAfter t at (now (from .entry))) × (now (to .exit) ≡ toAfter t at (now (to .entry)) (now (memory .entry)))
         × (now (memory .exit) ≡ memoryAfter t at (now (from .entry)) (now (memory .entry))) ⌝ }
 {
     let load = at.load;
@@ -166,6 +125,9 @@ fn move_between(from: &[u8], to: &mut [u8], memory: &mut [u8], t: Tables, at: St
         }
         Phase::Writes => {
             write_step(to, memory, t, load, tier);
+        }
+        Phase::Blanks => {
+            blank_step(from, memory, t.geometry, load, tier);
         }
     }
 }

@@ -35,10 +35,10 @@ fn source_of(order: Order, y: Address) -> Source
     order::address::source_of(order, y)
 }
 
-fn make_plan(order: Order) -> Planned
-    ensures { λ r. ⌜ r ≡ ours .plans order ⌝ }
+fn make_plan(order: Order, blanks: bool) -> Planned
+    ensures { λ r. ⌜ r ≡ ours .plans order blanks ⌝ }
 {
-    plan::make::make_plan(order)
+    plan::make::make_plan(order, blanks)
 }
 
 fn total_steps(plan: Plan) -> u64

@@ -1,6 +1,6 @@
 -- What does each check of a delivery come to, and which promise does each end keep? Assumes nothing.
 use mathlib.Core.Path.{_≡_, refl, sym, _∙_, subst}
-use mathlib.Core.Bool.{true, false}
+use mathlib.Core.Bool.{Bool, true, false}
 use mathlib.Core.List.{List, _++_}
 use Prim.Native.Nat.{ℕ, zero, suc, _-_, _<_, _≤_}
 use native.Mathlib.Omega.{arith}
@@ -22,10 +22,10 @@ use Rattle.delivery.specs.Delivery.DeliveryPromise.{unread, no-room, oth
 
 -- ---- a text that is refused
 
-pub unread-promise : (text : List ℕ) (v : Buffers) (k : ℕ) (order : Order) (z : ℕ) → Reads text k order z → (k ≡ 0 → ⊥)
-    → DeliveryPromise text v (Refused k (record { 0 = z })) v
-unread-promise text v zero order z r ne = absurd (ne refl)
-unread-promise text v (suc k) order z r ne =
+pub unread-promise : (text : List ℕ) (blanks : Bool) (v : Buffers) (k : ℕ) (order : Order) (z : ℕ) → Reads text k order z → (k ≡ 0 → ⊥)
+    → DeliveryPromise text blanks v (Refused k (record { 0 = z })) v
+unread-promise text blanks v zero order z r ne = absurd (ne refl)
+unread-promise text blanks v (suc k) order z r ne =
     unread k z (subst (λ (o : Order). Reads text (suc k) o z) (ours-answers .read-refused text (suc k) order z r ne) r)
 
 -- ---- the lengths
@@ -46,28 +46,28 @@ pub record Measured (text : List ℕ) (order : Order) (s k : ℕ) : Type 0 where
 pub from-start : {text : List ℕ} {order : Order} {s k : ℕ} → Measured text order s k → Measured text order (s - 0) (k - 0)
 from-start m = record { read = m .read; is-run = omega (arith, m .is-run); is-memory = omega (arith, m .is-memory) }
 
-module _ {text : List ℕ} {order : Order} {s k : ℕ} (m : Measured text order s k) (v : Buffers) where
+module _ {text : List ℕ} {order : Order} {s k : ℕ} (m : Measured text order s k) (blanks : Bool) (v : Buffers) where
   abbrev g : Geometry
   g = order .geometry
 
-  no-room-promise : roomFor g v ≡ false → DeliveryPromise text v (NoRoom s) v
-  no-room-promise e = subst (λ (n : ℕ). DeliveryPromise text v (NoRoom n) v) (sym (m .is-run)) (no-room order (m .read) e)
+  no-room-promise : roomFor g v ≡ false → DeliveryPromise text blanks v (NoRoom s) v
+  no-room-promise e = subst (λ (n : ℕ). DeliveryPromise text blanks v (NoRoom n) v) (sym (m .is-run)) (no-room order (m .read) e)
 
-  pub short-area : length (v .area1) < s → DeliveryPromise text v (NoRoom s) v
+  pub short-area : length (v .area1) < s → DeliveryPromise text blanks v (NoRoom s) v
   short-area h = no-room-promise (rw (lt-leb (areaBytes g) (length (v .area1)) (omega (arith, m .is-run))))
 
   module _ (area : s ≤ length (v .area1)) where
     area-enough : leb (areaBytes g) (length (v .area1)) ≡ true
     area-enough = le-leb (areaBytes g) (length (v .area1)) (omega (arith, m .is-run))
 
-    pub short-memory : length (v .memory) < k → DeliveryPromise text v (NoRoom s) v
+    pub short-memory : length (v .memory) < k → DeliveryPromise text blanks v (NoRoom s) v
     short-memory h = no-room-promise (rw (area-enough, lt-leb (memoryBytes g) (length (v .memory)) (omega (arith, m .is-memory))))
 
     module _ (memory : k ≤ length (v .memory)) where
       enough : roomFor g v ≡ true
       enough = rw (area-enough, le-leb (memoryBytes g) (length (v .memory)) (omega (arith, m .is-memory)))
 
-      pub other-length-promise : (length (v .area0) ≡ s → ⊥) → DeliveryPromise text v (Refused 4 (record { 0 = 0 })) v
+      pub other-length-promise : (length (v .area0) ≡ s → ⊥) → DeliveryPromise text blanks v (Refused 4 (record { 0 = 0 })) v
       other-length-promise ne = other-length order (m .read) enough (λ e. ne (e ∙ sym (m .is-run)))
 
       module _ (long : length (v .area0) ≡ s) where
@@ -85,11 +85,11 @@ module _ {text : List ℕ} {order : Order} {s k : ℕ} (m : Measured text order 
             })
 
         -- the parts came back as w, and the rest of each stayed
-        pub done-promise : (w : Buffers) → w ≡ setInOrder order parts
-            → DeliveryPromise text v Done (buffersOf (w .area0) (w .area1 ++ drop s (v .area1)) (w .memory ++ drop k (v .memory)))
+        pub done-promise : (w : Buffers) → w ≡ setInOrder order blanks parts
+            → DeliveryPromise text blanks v Done (buffersOf (w .area0) (w .area1 ++ drop s (v .area1)) (w .memory ++ drop k (v .memory)))
         unfolding afterDelivery
         done-promise w set =
             let t = read-taken (m .read) refl in
             rw (set, m .is-run, m .is-memory)
             (done order (m .read) enough (long ∙ m .is-run)
-            (set-in-tray-order order (t .room) (t .judged) (partsOf g v) (rw (m .is-run, m .is-memory) at parts-fit)))
+            (set-in-tray-order order (t .room) (t .judged) blanks (partsOf g v) (rw (m .is-run, m .is-memory) at parts-fit)))

@@ -1,4 +1,6 @@
 // A run is set in tray order on lent bytes: its order text is read, planned, and every step of the plan sent.
+pub mod look; // look.rt: is every byte zero?
+
 ghost use mathlib.Core.Path.{_≡_};
 ghost use mathlib.Core.Bool.{true};
 ghost use lib.ListN.{length};
@@ -11,13 +13,14 @@ use bank::Address;
 use bank::Geometry;
 use bank::power;
 use bank::wide;
-use blocks::bytes::copy_into;
 use order::Order;
 use plan::make::plan_for;
 use reading::read_order;
 use running::result_area;
 use sending::progress::Progress;
 use sending::send_all;
+use stripes::bytes::clear;
+use stripes::bytes::copy_into;
 
 // Done; refused by a number, and z with 3, 0 with every other; or the run, of so many bytes, has no room in the buffers.
 pub enum Delivery {
@@ -42,9 +45,11 @@ fn memory_bytes(g: Geometry) -> u64
     power(g.m) * wide(g.r)
 }
 
-// Every step of the order's plan is sent, and the result, where it lies in area 1, goes to area 0 too. The order was judged when it was read.
+// Every step of the order's plan is sent, and the result, where it lies in area 1, goes to area 0; where the spent area is to
+// be blanked, area 1 is spent then too. The order was judged when it was read.
 fn set_in_order(
     order: Order,
+    blanks: bool,
     again: u64,
     progress: Progress,
     area0: &mut [u8],
@@ -54,26 +59,30 @@ fn set_in_order(
     requires { ⌜ (judgement order ≡ 0) × (length (order .rows) ≡ ROWS) ⌝ }
     requires { ⌜ buffersFit (order .geometry) (buffersOf (now area0) (now area1) (now memory)) ≡ true ⌝ }
     ensures { λ _. ⌜ buffersOf (now (area0 .exit)) (now (area1 .exit)) (now (memory .exit))
-        ≡ setInOrder order (buffersOf (now (area0 .entry)) (now (area1 .entry)) (now (memory .entry))) ⌝ }
+        ≡ setInOrder order blanks (buffersOf (now (area0 .entry)) (now (area1 .entry)) (now (memory .entry))) ⌝ }
 {
     let rows = order.rows;
-    let plan = plan_for(order.geometry, rows, order.complement);
+    let plan = plan_for(order.geometry, rows, order.complement, blanks);
     send_all(plan, again, progress, area0, area1, memory);
     if result_area(plan) == 1 {
         copy_into(area0, area1);
+        if blanks {
+            clear(area1);
+        }
     }
 }
 
-// The run in tray order, every step sent so many times more; or a refusal, which changes nothing.
+// The run in tray order, every step sent so many times more, and the spent area blanked or not; or a refusal, which changes nothing.
 pub fn deliver(
     text: &[u8],
+    blanks: bool,
     again: u64,
     progress: Progress,
     run: &mut [u8],
     spare: &mut [u8],
     memory: &mut [u8],
 ) -> Delivery
-    ensures { λ r. ⌜ DeliveryPromise (now (text .entry)) (buffersOf (now (run .entry)) (now (spare .entry)) (now (memory .entry))) r
+    ensures { λ r. ⌜ DeliveryPromise (now (text .entry)) blanks (buffersOf (now (run .entry)) (now (spare .entry)) (now (memory .entry))) r
         (buffersOf (now (run .exit)) (now (spare .exit)) (now (memory .exit))) ⌝ }
 {
     let read = read_order(text);
@@ -96,6 +105,7 @@ pub fn deliver(
     }
     set_in_order(
         order,
+        blanks,
         again,
         progress,
         run,

@@ -1,5 +1,6 @@
 -- Has each of our calls one outcome, and what does a refusal hand back and leave? Our mover has demand 1. Assumes nothing.
 use mathlib.Core.Path.{_≡_, refl, sym, ap, _∙_}
+use mathlib.Core.Bool.{Bool}
 use mathlib.Core.List.{List, []}
 use Prim.Native.Nat.{ℕ, zero, suc, _+_, _-_, _<_, min}
 use native.Mathlib.Omega.{arith}
@@ -61,11 +62,11 @@ refused-empty (singular g order b e w j) f = refl
 refused-empty (taken g order b e w j) f = absurd (f refl)
 
 -- the plan of an order that is taken can run, and has the first lines of a listing
-something-listed : (text : List ℕ) (order : Order) (z : ℕ) → Reads text 0 order z → 0 < length (listing (plannedFor order .plan))
+something-listed : (text : List ℕ) (order : Order) (z : ℕ) (blanks : Bool) → Reads text 0 order z → 0 < length (listing (plannedFor order blanks .plan))
 unfolding headLines
-something-listed text order z r =
+something-listed text order z blanks r =
     let t = read-taken r refl in
-    rw (listing-parts (plannedFor order .plan) (made-accepted order (t .room) (t .judged) .sound-plan)) (omega arith)
+    rw (listing-parts (plannedFor order blanks .plan) (made-accepted order (t .room) (t .judged) blanks .sound-plan)) (omega arith)
 
 pub ours-answers : Answers ours
 unfolding targetOf plannedFor
@@ -77,8 +78,8 @@ ours-answers =
       source-refused = no-source;
       source-some = some-source;
       source-one = λ order y a b p q. one-answer a b (p ∙ sym q);
-      plan-number = λ order. refl;
-      plan-refused = λ order f. ap (λ (a : Planned). a .plan) (planned-refused order f);
+      plan-number = λ order blanks. refl;
+      plan-refused = λ order blanks f. ap (λ (a : Planned). a .plan) (planned-refused order blanks f);
       empty-step = λ m k r w p. ours-numbers .of-step emptyPlan m k r w p .gives-7 .1 (empty-stuck (m .state));
       empty-run = λ m q r w p. ours-numbers .of-run emptyPlan m q r w p .gives-7 .1 (empty-stuck (m .state));
       step-done = λ plan m k r w p e.

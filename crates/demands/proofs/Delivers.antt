@@ -1,10 +1,11 @@
 -- Our mover has demand 3, by its own plans and by any plan that performs an order. Assumes nothing.
 use mathlib.Core.Path.{_≡_, refl, sym, ap, ap₂, _∙_, subst}
-use mathlib.Core.Bool.{true, cond}
+use mathlib.Core.Bool.{Bool, true, cond}
 use mathlib.Core.List.{List}
 use mathlib.Core.Logic.{_↔_, _⊎_, ⊎-elim}
 use Prim.Native.Nat.{ℕ, zero, suc, _+_, _-_, _%_, _*_, _<_, _≤_}
-use native.Mathlib.Nat.{le-of-eq, zero-add}
+use native.Mathlib.Nat.{le-of-eq, mul-comm, mul-zero, zero-add}
+use native.Mathlib.Numerals.{add-one}
 use native.Mathlib.Omega.{arith}
 use lib.Dec.{eqb}
 use lib.ListN.{length}
@@ -21,7 +22,7 @@ use Rattle.order.proofs.Accepted.{Accepted, judgement→accepted, matrix-below,
 use Rattle.planning.specs.declared.Plan.{Plan}
 use Rattle.planning.specs.Columns.{phi}
 use Rattle.planning.specs.Making.{dividedUp}
-use Rattle.planning.specs.Pass.{Pass, performed, total}
+use Rattle.planning.specs.Pass.{Pass, passSteps, performed, total}
 use Rattle.planning.specs.Stored.{planFor, planOf, routeOf, storedRows}
 use Rattle.planning.proofs.Made.{runs-bound}
 use Rattle.planning.proofs.Running.{sound-allowed, sound→can-run, sound→runs}
@@ -32,19 +33,19 @@ use Rattle.plan.specs.Answer.{plannedFor}
 use Rattle.running.specs.Total.{resultArea}
 use Rattle.plan.proofs.Answered.{planned-taken}
 use Rattle.plan.proofs.Main.{made-accepted}
-use Rattle.moving.specs.Bytes.{recordOf}
+use Rattle.moving.specs.Bytes.{AllZero, recordOf}
 use Rattle.moving.specs.Step.Area.{zeroth, first}
 use Rattle.moving.specs.Step.{Buffers, bytesOf, areaRead, buffersFit}
 use Rattle.moving.specs.Call.{Moment, begun}
 use Rattle.moving.proofs.Calls.{CallReady, can→ready, next-number, ready-run, run-next}
-use Rattle.moving.proofs.Numbers.{pass-twice}
-use Rattle.moving.proofs.Kept.{Kept, delivered, kept-begun, kept-ready, kept-run, kept-step, step-advance}
+use Rattle.moving.proofs.Numbers.{pass-stripes}
+use Rattle.moving.proofs.Kept.{Kept, delivered, kept-begun, kept-ready, kept-run, kept-step, spent, step-advance, still-bytes}
 use Rattle.mover.proofs.Asked.{total-is}
 use Rattle.demands.specs.Mover.{beginning}
 use Rattle.demands.specs.Ours.{ours}
 use Rattle.demands.specs.Chain.{Called, Chain, newSteps}
 use Rattle.demands.specs.Chain.Chain.{noCalls, step, run, strayStep, strayRun}
-use Rattle.demands.specs.Delivers.{Carries, Delivered, Delivers, DeliversForeign, Performs, Reached, Runnable, areaNamed, roundsFor}
+use Rattle.demands.specs.Delivers.{Blanked, Carries, Delivered, Delivers, DeliversForeign, Performs, Reached, Runnable, areaNamed, roundsFor, stepsAPass}
 use Rattle.demands.specs.PassCounts.{PassCounts}
 use Rattle.demands.specs.Still.{StillOrder}
 use Rattle.demands.proofs.OneStep.{one-step}
@@ -77,16 +78,22 @@ chain-advance {plan} (run {m = m} {w = w} q answer p rest) =
 chain-advance (strayStep stray i answer p f rest) = chain-advance rest
 chain-advance (strayRun stray q answer p f rest) = chain-advance rest
 
--- ---- the area that our call names
+-- ---- the areas, by their numbers
 
-area-is : (plan : Plan) (v : Buffers) → areaNamed (ours .area plan) v ≡ bytesOf (areaRead (plan .count)) v
-unfolding areaNamed resultArea
-area-is plan v = by (plan .count % 2) (omega arith)
+-- the area of a pass's number is the one that it reads
+area-read : (p : ℕ) (v : Buffers) → areaNamed (p % 2) v ≡ bytesOf (areaRead p) v
+unfolding areaNamed
+area-read p v = by (p % 2) (omega arith)
   where
     by : (k : ℕ) → k < 2 → areaNamed k v ≡ bytesOf (cond (eqb k 0) zeroth first) v
     by zero h = refl
     by (suc zero) h = refl
     by (suc (suc k)) h = absurd (omega arith)
+
+-- and our call names that of the pass after the last
+area-is : (plan : Plan) (v : Buffers) → areaNamed (ours .area plan) v ≡ bytesOf (areaRead (plan .count)) v
+unfolding resultArea
+area-is plan v = area-read (plan .count) v
 
 -- ---- a plan that can run, whoever made it
 
@@ -118,9 +125,43 @@ module _ (plan : Plan) (can : Runnable plan) where
   unfolding total routeOf
   carries =
       record {
-        steps = all ∙ ap₂ (λ (each passes : ℕ). each * passes) (pass-twice (routeOf plan) (sound-allowed plan (can .can-run))) (route-length plan);
+        steps = all ∙ ap₂ (λ (each passes : ℕ). each * passes) (pass-stripes (routeOf plan) (sound-allowed plan (can .can-run))) (route-length plan);
         one-block = one-step plan can;
         chains = reached;
+      }
+
+  -- ---- where it blanks
+
+  module _ (marked : plan .blanks ≡ true) (v : Buffers) (fitting : buffersFit (plan .geometry) v ≡ true) (cs : List Called) (end : Moment)
+      (chain : Chain ours plan (beginning ours v) cs end) where
+    each : passSteps (routeOf plan) ≡ stepsAPass plan
+    unfolding routeOf
+    each = pass-stripes (routeOf plan) (sound-allowed plan (can .can-run))
+
+    -- after pass p, the area that it read and memory are zero
+    spent-pass : (p : ℕ) → p < plan .count → end .state .next .0 ≡ stepsAPass plan * (p + 1)
+        → AllZero (areaNamed (p % 2) (end .buffers)) × AllZero (end .buffers .memory)
+    spent-pass p h ends =
+        rw (area-read p (end .buffers))
+        (spent plan (sound→runs plan (can .room) (can .can-run)) v fitting end (kept v fitting cs end chain) marked p h
+        (ends ∙ ap₂ (λ (i k : ℕ). i * k) (sym each) (add-one p) ∙ mul-comm (passSteps (routeOf plan)) (suc p)))
+
+    -- at the end pass p was the last, and the area that it read isn't the one named
+    spent-end : (p : ℕ) → plan .count ≡ p + 1 → end .state .next .0 ≡ ours .total plan
+        → AllZero (areaNamed (1 - ours .area plan) (end .buffers)) × AllZero (end .buffers .memory)
+    unfolding total resultArea
+    spent-end p e ends =
+        subst (λ (k : ℕ). AllZero (areaNamed k (end .buffers)) × AllZero (end .buffers .memory)) (omega (arith, e))
+        (spent-pass p (omega (arith, e)) (ends ∙ all ∙ ap₂ (λ (i k : ℕ). i * k) each (route-length plan ∙ e)))
+
+  blanked : plan .blanks ≡ true → Blanked ours plan
+  unfolding total
+  blanked marked =
+      record {
+        after-pass = spent-pass marked;
+        at-end = λ v fitting cs end chain some ends. spent-end marked v fitting cs end chain (plan .count - 1) (omega arith) ends;
+        no-pass = λ v fitting cs end chain none.
+            still-bytes plan v end (kept v fitting cs end chain) (ap (λ (k : ℕ). passSteps (routeOf plan) * k) (route-length plan ∙ none) ∙ mul-zero (passSteps (routeOf plan)));
       }
 
 -- ---- a plan that performs an order, whoever made it
@@ -150,15 +191,20 @@ ours-foreign = foreign-delivers
 
 -- ---- our own plan performs its order
 
-module _ (order : Order) (room : length (order .rows) ≡ ROWS) (taken : judgement order ≡ 0) where
-  own-room : length (plannedFor order .plan .rows) ≡ PASSES * ROWS
-  unfolding planFor planOf storedRows
-  own-room = ap (λ (a : Planned). length (a .plan .rows)) (planned-taken order taken) ∙ listed-length _ (PASSES * ROWS) 0
+-- what was asked of the spent area
+own-keeps : (order : Order) (taken : judgement order ≡ 0) (blanks : Bool) → plannedFor order blanks .plan .blanks ≡ blanks
+unfolding planFor planOf
+own-keeps order taken blanks = ap (λ (a : Planned). a .plan .blanks) (planned-taken order blanks taken)
 
-  own-performs : Performs order (plannedFor order .plan)
-  own-performs =
-      let k = made-accepted order room taken in
-      record { on-its-bank = k .on-its-bank; runs = record { can-run = k .sound-plan; room = own-room }; takes = k .performs }
+module _ (order : Order) (room : length (order .rows) ≡ ROWS) (taken : judgement order ≡ 0) where
+  own-room : (blanks : Bool) → length (plannedFor order blanks .plan .rows) ≡ PASSES * ROWS
+  unfolding planFor planOf storedRows
+  own-room blanks = ap (λ (a : Planned). length (a .plan .rows)) (planned-taken order blanks taken) ∙ listed-length _ (PASSES * ROWS) 0
+
+  own-performs : (blanks : Bool) → Performs order (plannedFor order blanks .plan)
+  own-performs blanks =
+      let k = made-accepted order room taken blanks in
+      record { on-its-bank = k .on-its-bank; runs = record { can-run = k .sound-plan; room = own-room blanks }; takes = k .performs }
 
   formed : Accepted order
   formed = judgement→accepted order taken
@@ -169,15 +215,16 @@ module _ (order : Order) (room : length (order .rows) ≡ ROWS) (taken : judgeme
   still-or-not : StillOrder order ⊎ (StillOrder order → ⊥)
   still-or-not = still-or (order .geometry) (matrixOf order) (order .complement) long
 
-  own-none : StillOrder order → plannedFor order .plan .count ≡ 0
-  own-none = made-accepted order room taken .no-pass
+  own-none : (blanks : Bool) → StillOrder order → plannedFor order blanks .plan .count ≡ 0
+  own-none blanks = made-accepted order room taken blanks .no-pass
 
-  pub own-passes : (StillOrder order → ⊥) → plannedFor order .plan .count ≡ roundsFor order + 1
-  own-passes = made-accepted order room taken .passes
+  pub own-passes : (StillOrder order → ⊥) → (blanks : Bool) → plannedFor order blanks .plan .count ≡ roundsFor order + 1
+  own-passes f blanks = made-accepted order room taken blanks .passes f
 
   -- at most one more than rounds, whichever of the two it is
-  own-few : plannedFor order .plan .count ≤ roundsFor order + 1
-  own-few = ⊎-elim (λ (s : StillOrder order). omega (arith, own-none s)) (λ (f : StillOrder order → ⊥). le-of-eq (own-passes f)) still-or-not
+  own-few : (blanks : Bool) → plannedFor order blanks .plan .count ≤ roundsFor order + 1
+  own-few blanks =
+      ⊎-elim (λ (s : StillOrder order). omega (arith, own-none blanks s)) (λ (f : StillOrder order → ⊥). le-of-eq (own-passes f blanks)) still-or-not
 
   sent : (x : ℕ) → x < records (order .geometry) → ours .sends order x .address .0 ≡ sentTo order x
   sent x h = ap (λ (t : Target). t .address .0) (ours-sends order room .sends taken x h)
@@ -200,21 +247,23 @@ module _ (order : Order) (room : length (order .rows) ≡ ROWS) (taken : judgeme
   foreign-stays plan does none = stays-still (λ x h. sym (does .takes x h) ∙ ap (λ (ps : List Pass). performed ps x) (route-none plan none))
 
   -- so ours has none exactly there
-  own-exact : (plannedFor order .plan .count ≡ 0) ↔ StillOrder order
-  own-exact = (foreign-stays (plannedFor order .plan) own-performs, own-none)
+  own-exact : (blanks : Bool) → (plannedFor order blanks .plan .count ≡ 0) ↔ StillOrder order
+  own-exact blanks = (foreign-stays (plannedFor order blanks .plan) (own-performs blanks), own-none blanks)
 
 pub ours-delivers : Delivers ours
 ours-delivers =
     record {
-      own = λ order room taken.
-          let k = own-performs order room taken in
+      own = λ order room taken blanks.
+          let k = own-performs order room taken blanks in
           record {
+            keeps = own-keeps order taken blanks;
             on-its-bank = k .on-its-bank;
             runs = k .runs;
-            delivers = foreign-delivers order (plannedFor order .plan) k;
-            passes = own-few order room taken;
+            delivers = foreign-delivers order (plannedFor order blanks .plan) k;
+            passes = own-few order room taken blanks;
           };
       carries = carries;
+      blanked = blanked;
       repeats = ours-repeats;
     }
 
@@ -227,7 +276,7 @@ ours-counts =
       exact = own-passes;
       none-others = foreign-stays;
       at-least = least;
-      near-best = λ order room taken plan does. omega (arith, own-few order room taken, least order plan does);
+      near-best = λ order room taken plan does blanks. omega (arith, own-few order room taken blanks, least order plan does);
     }
   where
     least : (order : Order) (plan : Plan) → Performs order plan → roundsFor order ≤ plan .count

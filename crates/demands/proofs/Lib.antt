@@ -13,3 +13,4 @@ pub mod Small
 pub mod Useless
 pub mod Possible
 pub mod Trials
+pub mod Unmarked

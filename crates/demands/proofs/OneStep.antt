@@ -6,7 +6,7 @@ use borrow.Author.Tests.{eq-eqb, ne-eqb}
 use lib.ListN.{getD, length}
 use Rattle.bank.specs.declared.Geometry.{Geometry}
 use Rattle.bank.specs.Geometry.{blockAt, driveAt, tierAt}
-use Rattle.planning.specs.declared.Phase.the-variants.{Reads, Writes}
+use Rattle.planning.specs.declared.Phase.the-variants.{Reads, Writes, Blanks}
 use Rattle.planning.specs.declared.Plan.{Plan}
 use Rattle.planning.specs.Pass.{Route, total}
 use Rattle.planning.specs.Inner.{Runs}
@@ -20,12 +20,12 @@ use Rattle.moving.specs.Step.{Buffers, bytesOf, areaRead, areaWritten, move, Ar
 use Rattle.moving.proofs.Calls.{by-stepped, taken-moves}
 use Rattle.moving.proofs.Drives.{step-block-in}
 use Rattle.moving.proofs.Fits.{area-long, move-fits, Fits}
-use Rattle.moving.proofs.Moved.{given, read-areas, read-byte, taken, taken-in, write-byte, write-memory, write-reads}
+use Rattle.moving.proofs.Moved.{blank-byte, blank-place, blank-written, given, read-areas, read-byte, taken, taken-in, write-byte, write-memory, write-reads}
 use Rattle.mover.specs.declared.step.Stepped.{Stepped}
 use Rattle.mover.specs.Promise.{StepPromise}
 use Rattle.mover.proofs.Asked.{total-is}
 use Rattle.demands.specs.Delivers.{Runnable}
-use Rattle.demands.specs.OneStep.{InBlocks, InTier, MoveMade, OneStep, ReadStep, WriteStep}
+use Rattle.demands.specs.OneStep.{BlankStep, InBlocks, InTier, MoveMade, OneStep, ReadStep, WriteStep}
 use Rattle.demands.specs.Ours.{ours}
 use Rattle.demands.proofs.Promised.{step-number}
 
@@ -54,6 +54,10 @@ module _ (plan : Plan) (runs : Runs (routeOf plan)) (k : ℕ) (h : k < total (ro
 
   abbrev route : Route
   route = routeOf plan
+
+  -- a move leaves an area as long as it was
+  as-long : (m : Moment) → Fits bank (m .buffers) → (a : Area) → length (bytesOf a (move route k (m .buffers))) ≡ length (bytesOf a (m .buffers))
+  as-long m f a = area-long bank (move route k (m .buffers)) (move-fits bank route k (m .buffers) f) a ∙ sym (area-long bank (m .buffers) f a)
 
   module _ (e : phaseOf route k ≡ Reads) where
     -- a byte of the step's tier comes from the area read
@@ -106,9 +110,7 @@ module _ (plan : Plan) (runs : Runs (routeOf plan)) (k : ℕ) (h : k < total (ro
           read-stays = λ m r w q.
               left plan k m w r q (λ u. bytesOf (areaRead (passOf route k)) u ≡ bytesOf (areaRead (passOf route k)) (m .buffers)) refl
               (λ f. write-reads route k (m .buffers) e);
-          area-long = λ m r w q.
-              left plan k m w r q (λ u. length (bytesOf other u) ≡ length (bytesOf other (m .buffers))) refl
-              (λ f. area-long bank (move route k (m .buffers)) (move-fits bank route k (m .buffers) f) other ∙ sym (area-long bank (m .buffers) f other));
+          area-long = λ m r w q. left plan k m w r q (λ u. length (bytesOf other u) ≡ length (bytesOf other (m .buffers))) refl (λ f. as-long m f other);
           others-stay = λ m r w q i l n.
               left plan k m w r q (λ u. getD (bytesOf other u) i 0 ≡ getD (bytesOf other (m .buffers)) i 0) refl
               (λ f. write-byte route k runs h (m .buffers) f e i l
@@ -121,6 +123,38 @@ module _ (plan : Plan) (runs : Runs (routeOf plan)) (k : ℕ) (h : k < total (ro
               ∙ sym (write-takes m′ w′ d′ i (subst (λ (n : ℕ). i < n) (area-long bank (m .buffers) f other ∙ sym (area-long bank (m′ .buffers) f′ other)) l) t);
         }
 
+  module _ (e : phaseOf route k ≡ Blanks) where
+    -- the area read
+    abbrev spent : Area
+    spent = areaRead (passOf route k)
+
+    a-blank : BlankStep ours plan k (stepBlock route k)
+    unfolding routeOf
+    a-blank =
+        record {
+          written-stays = λ m r w q.
+              left plan k m w r q (λ u. bytesOf (areaWritten (passOf route k)) u ≡ bytesOf (areaWritten (passOf route k)) (m .buffers)) refl
+              (λ f. blank-written route k (m .buffers) e);
+          area-long = λ m r w q. left plan k m w r q (λ u. length (bytesOf spent u) ≡ length (bytesOf spent (m .buffers))) refl (λ f. as-long m f spent);
+          memory-long = λ m r w q.
+              left plan k m w r q (λ u. length (u .memory) ≡ length (m .buffers .memory)) refl
+              (λ f. move-fits bank route k (m .buffers) f .memory-long ∙ sym (f .memory-long));
+          others-stay = λ m r w q i l n.
+              left plan k m w r q (λ u. getD (bytesOf spent u) i 0 ≡ getD (bytesOf spent (m .buffers)) i 0) refl
+              (λ f. blank-byte route k (runs-allowed route runs) (m .buffers) e i l
+              ∙ rw (ne-eqb (blockAt bank (i / bank .r)) (stepBlock route k (driveAt bank (i / bank .r))) n));
+          places = λ m r w q i l n.
+              left plan k m w r q (λ u. getD (u .memory) i 0 ≡ getD (m .buffers .memory) i 0) refl
+              (λ f. blank-place route k (m .buffers) e i l ∙ rw (ne-eqb (tierAt bank (i / bank .r)) (tierOf route k) n));
+          blank = λ m w d i l t.
+              ap (λ (u : Buffers). getD (bytesOf spent u) i 0) (made plan k m w d .1)
+              ∙ blank-byte route k (runs-allowed route runs) (m .buffers) e i l
+              ∙ rw (eq-eqb (blockAt bank (i / bank .r)) (stepBlock route k (driveAt bank (i / bank .r))) t);
+          clear = λ m w d i l t.
+              ap (λ (u : Buffers). getD (u .memory) i 0) (made plan k m w d .1)
+              ∙ blank-place route k (m .buffers) e i l ∙ rw (eq-eqb (tierAt bank (i / bank .r)) (tierOf route k) t);
+        }
+
 -- ONE STEP. Of any plan that can run, whoever made it
 pub one-step : (plan : Plan) → Runnable plan → (k : ℕ) → k < ours .total plan → OneStep ours plan k
 unfolding routeOf
@@ -131,6 +165,7 @@ one-step plan can k l =
       on-drive = λ q b. step-block-in (routeOf plan) k runs h q b .1;
       reading = a-read plan runs k h;
       writing = a-write plan runs k h;
+      blanking = a-blank plan runs k h;
     }
   where
     runs : Runs (routeOf plan)

@@ -206,8 +206,8 @@ possible =
       still-taken = λ g inside. xor-taken g 0 inside (pow-pos (g .n));
       still = λ g. (xor-matrix g 0, refl);
       refused-3 = zero-refused;
-      comes = λ M answers delivers order room taken v fitting.
-          let own = delivers .own order room taken in
-          busy-comes M answers (M .plans order .plan) v
-          (delivers .carries (M .plans order .plan) (own .runs) .chains v (subst (λ (g : Geometry). buffersFit g v ≡ true) (sym (own .on-its-bank)) fitting));
+      comes = λ M answers delivers order room taken blanks v fitting.
+          let own = delivers .own order room taken blanks in
+          busy-comes M answers (M .plans order blanks .plan) v
+          (delivers .carries (M .plans order blanks .plan) (own .runs) .chains v (subst (λ (g : Geometry). buffersFit g v ≡ true) (sym (own .on-its-bank)) fitting));
     }

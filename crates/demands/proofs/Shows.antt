@@ -101,7 +101,7 @@ unfolding targetOf plannedFor
 of-order order k z judging = goes-with order (judgement order) (zWith (judgement order) order) (λ e. e) refl
 of-order order k z (forwards x) = asked-with order x (zWith (questionNumber order x) order) refl
 of-order order k z (backwards y a p) = back-with order y a p
-of-order order k z planning = goes-with order (judgement order) (zWith (judgement order) order) (λ e. e) refl
+of-order order k z (planning blanks) = goes-with order (judgement order) (zWith (judgement order) order) (λ e. e) refl
 of-order order k z (reading text g i w k′ answer z′ r) =
     record { with-3 = λ e. read-shows text k′ answer z′ r e g order i w; else-0 = no-z text k′ answer z′ r }
 

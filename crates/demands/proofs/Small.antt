@@ -1,6 +1,6 @@
 -- What do the definitions give for one small order? Its plan and its bytes, computed; the rest by laws. Assumes nothing.
 use mathlib.Core.Path.{_≡_, refl, sym, ap, ap₂, _∙_, subst}
-use mathlib.Core.Bool.{true}
+use mathlib.Core.Bool.{Bool, false, true}
 use mathlib.Core.List.{[], _∷_}
 use Prim.Native.Nat.{ℕ, _+_, _-_, _*_, _≤_, min}
 use native.Mathlib.Omega.{arith}
@@ -56,25 +56,36 @@ pub sent-0 : sentTo small 0 ≡ 1
 unfolding ones parity applied target
 sent-0 = refl
 
--- ---- its plan: one pass, and so 8 steps
+-- ---- its plan: one pass, and so 8 steps, or 12 where it blanks
 
-abbrev pub plan : Plan
-plan = record { geometry = bank; count = 1; rows = 3 ∷ 2 ∷ replicate (PASSES * ROWS - 2) 0; complements = 1 ∷ replicate (PASSES - 1) 0 }
+abbrev pub planThat : Bool → Plan
+planThat blanks =
+    record {
+      geometry = bank;
+      blanks = blanks;
+      count = 1;
+      rows = 3 ∷ 2 ∷ replicate (PASSES * ROWS - 2) 0;
+      complements = 1 ∷ replicate (PASSES - 1) 0;
+    }
 
-pub small-plan : plannedFor small .plan ≡ plan
+pub small-plan : (blanks : Bool) → plannedFor small blanks .plan ≡ planThat blanks
 unfolding ones leastFrom least anyBelow firstOf which listed bit parity unlessZero comb unitVectors identity isIdentity applied columns marked complemented after
     adding source target inverse phi delta zeroColumn onlyMarked reached chosen unmarked partner step1 summands step2 operations busy rounds
     firstAfter passMatrices passesFor planFor planOf storedRows storedComplements
-small-plan = ap (λ (a : Planned). a .plan) (planned-taken small small-taken)
+small-plan blanks = ap (λ (a : Planned). a .plan) (planned-taken small blanks small-taken)
 
-pub small-sound : sound plan ≡ true
-small-sound = subst (λ (p : Plan). sound p ≡ true) small-plan (made-accepted small refl small-taken .sound-plan)
+pub small-sound : (blanks : Bool) → sound (planThat blanks) ≡ true
+small-sound blanks = subst (λ (p : Plan). sound p ≡ true) (small-plan blanks) (made-accepted small refl small-taken blanks .sound-plan)
 
-pub small-runs : Runnable plan
-small-runs = record { can-run = small-sound; room = refl }
+pub small-runs : (blanks : Bool) → Runnable (planThat blanks)
+small-runs blanks = record { can-run = small-sound blanks; room = refl }
+
+-- the one that doesn't blank
+abbrev pub plan : Plan
+plan = planThat false
 
 abbrev route : Route
-route = record { geometry = bank; passes = record { rows = 3 ∷ 2 ∷ []; complement = 1 } ∷ [] }
+route = record { geometry = bank; blanks = false; passes = record { rows = 3 ∷ 2 ∷ []; complement = 1 } ∷ [] }
 
 small-route : routeOf plan ≡ route
 unfolding listed routeOf storedPass
@@ -108,7 +119,7 @@ start-fits = refl
 
 ready : (k a b : ℕ) → k ≤ 8 → CallReady plan (momentOf (atStep k) (holding a b))
 ready k a b h =
-    record { sound-plan = small-sound; in-total = omega (arith, route-eight); fitting = record { area0-long = refl; area1-long = refl; memory-long = refl } }
+    record { sound-plan = small-sound false; in-total = omega (arith, route-eight); fitting = record { area0-long = refl; area1-long = refl; memory-long = refl } }
 
 -- all its steps, and a run of them
 pub moved-all : movesFrom (move (routeOf plan)) 0 (totalSteps plan) start ≡ end

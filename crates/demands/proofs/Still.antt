@@ -129,9 +129,9 @@ module _ (plan : Plan) where
       → (ours .lists plan room ≡ length lines) × (ours .leaves plan room ≡ lines ++ drop (length lines) room)
 
 pub ours-still : CostsNothing ours
-ours-still order room taken still =
-    let k = made-accepted order room taken in
-    let made = plannedFor order .plan in
+ours-still order room taken still blanks =
+    let k = made-accepted order room taken blanks in
+    let made = plannedFor order blanks .plan in
     let none = k .no-pass still in
     let can = k .sound-plan in
     record {

@@ -1,6 +1,6 @@
 -- Why is each useless mover shut out? By one small order. Assumes nothing.
 use mathlib.Core.Path.{_≡_, refl, sym, ap, ap₂, _∙_, subst}
-use mathlib.Core.Bool.{cond, false, true≢false}
+use mathlib.Core.Bool.{cond, false, false≢true, true, true≢false}
 use mathlib.Core.List.{List, [], _∷_, _++_}
 use Prim.Native.Nat.{ℕ, _-_, _<_, _^_}
 use native.Mathlib.Omega.{arith}
@@ -12,7 +12,7 @@ use Rattle.bank.specs.Limits.{ROWS}
 use Rattle.bank.specs.declared.Geometry.{Geometry}
 use Rattle.bank.specs.Checks.{handed}
 use Rattle.bank.specs.Geometry.{inLimits, tierAt, tiers}
-use Rattle.algebra.specs.Search.{least, leastFrom, anyBelow, firstOf}
+use Rattle.algebra.specs.Search.{least, leastFrom, anyBelow, firstOf, listed}
 use Rattle.algebra.specs.Vector.{WORD, parity, unitVectors}
 use Rattle.algebra.specs.Matrix.{applied, columns, identity, isIdentity, kernel, kills, singular, target}
 use Rattle.algebra.proofs.Lists.{getD-zeros}
@@ -23,7 +23,8 @@ use Rattle.order.specs.Order.{Words, badForm, formNumber, judgement, matrixOf, 
 use Rattle.order.specs.Address.{questionNumber}
 use Rattle.order.proofs.Accepted.{judgement→accepted, matrix-length}
 use Rattle.order.proofs.Asked.{number-none, number-order}
-use Rattle.planning.specs.Pass.{loadSteps, passSteps, phases}
+use Rattle.planning.specs.declared.Plan.{Plan}
+use Rattle.planning.specs.Pass.{loadSteps, passSteps, phases, total}
 use Rattle.planning.specs.State.{freshState}
 use Rattle.planning.specs.Making.{passesMade}
 use Rattle.planning.specs.Stored.{emptyPlan, planOf, routeOf}
@@ -32,9 +33,11 @@ use Rattle.planning.proofs.Running.{sound→can-run}
 use Rattle.plan.specs.Answer.{plannedFor}
 use Rattle.running.specs.Total.{resultArea, totalSteps}
 use Rattle.moving.specs.Bytes.{copied, each, eachFrom, recordOf}
-use Rattle.moving.specs.Number.{loadOf, passOf, phaseOf}
+use Rattle.moving.specs.Number.{loadOf, passOf, phaseOf, tierOf}
 use Rattle.moving.specs.Step.{Buffers, readFrom}
-use Rattle.moving.specs.Call.{begun}
+use Rattle.moving.specs.Call.{begun, refuses}
+use Rattle.moving.proofs.Calls.{CallReady, next-number}
+use Rattle.mover.proofs.Asked.{total-is}
 use Rattle.mover.specs.declared.step.Stepped.the-variants.{Again, Done, Refused}
 use Rattle.mover.specs.Promise.{numberOf, stateOf}
 use Rattle.text.specs.Lines.{bits, line, rowLines}
@@ -55,14 +58,15 @@ use Rattle.demands.specs.Sends.{Sends}
 use Rattle.demands.specs.Shows.{Explains, Gives}
 use Rattle.demands.specs.Shows.Gives.{judging, forwards, planning, reading}
 use Rattle.demands.specs.Still.{CostsNothing}
-use Rattle.demands.specs.Useless.{Broken, alwaysPasses, beginsAtOne, inventsTotals, movesAll, movesNothing, otherArea, plansWithoutC, readsWholeLoad}
+use Rattle.demands.specs.Useless.{Broken, alwaysPasses, beginsAtOne, blanksNothing, inventsTotals, movesAll, movesNothing, otherArea, plansWithoutC, readsWholeLoad}
 use Rattle.demands.specs.Useless.{readsWithoutZ, refusesAll, refusesNoPasses, refusesRuns, refusesSteps, showsAlways, showsGreatest, showsTurned, stepsMoveNothing, takesIdentityAlone, toItself, toZero, wrapsSize, wrapsTotals}
 use Rattle.demands.proofs.Answers.{ours-answers}
 use Rattle.demands.proofs.Delivers.{ours-delivers, own-passes}
 use Rattle.demands.proofs.Possible.{possible}
+use Rattle.demands.proofs.Promised.{step-number}
 use Rattle.demands.proofs.Sends.{ours-sends}
 use Rattle.demands.proofs.Still.{ours-still}
-use Rattle.demands.proofs.Small.{bank, small, small-taken, sent-0, plan, small-plan, small-sound, small-runs, eight, holding, start, end, atStep, start-fits}
+use Rattle.demands.proofs.Small.{bank, small, small-taken, sent-0, plan, planThat, small-plan, small-sound, small-runs, eight, holding, start, end, atStep, start-fits}
 use Rattle.demands.proofs.Small.{moved-all, ended, run-promised, reads-first, tier-first, step-promised, again-promised}
 
 -- ---- what the demands make of the small order
@@ -76,18 +80,18 @@ module _ (M : Mover) (h : Sends M) where
 
 module _ (M : Mover) (h : Delivers M) where
   carried : Carries M plan
-  carried = h .carries plan small-runs
+  carried = h .carries plan (small-runs false)
 
   no-calls : Reached M plan [] (beginning M start)
   no-calls = carried .chains start start-fits [] (beginning M start) noCalls
 
   -- after a run of its 8 steps byte 0 of area 0 is at address 1 of the area named
-  must-deliver : M .judges small .number ≡ 0 → M .plans small .plan ≡ plan → M .total plan ≡ 8 → (w : Buffers) → M .run plan (beginning M start) 8 ended w
+  must-deliver : M .judges small .number ≡ 0 → M .plans small false .plan ≡ plan → M .total plan ≡ 8 → (w : Buffers) → M .run plan (beginning M start) 8 ended w
       → getD (recordOf 1 (areaNamed (M .area plan) w) 1) 0 0 ≡ 1
   must-deliver judges plans all w p =
       ap (λ (y : ℕ). getD (recordOf 1 (areaNamed (M .area plan) w) y) 0 0) (sym sent-0)
       ∙ ap (λ (l : List ℕ). getD l 0 0)
-      (subst (Delivered M small) plans (h .own small refl judges .delivers) start start-fits
+      (subst (Delivered M small) plans (h .own small refl judges false .delivers) start start-fits
       (allowed 8 ended ∷ []) (momentOf (atStep 8) w) (run 8 ended p noCalls) (sym all) 0 (omega arith))
 
   first-read : (l : 0 < M .total plan) → ReadStep M plan 0 (carried .one-block 0 l .blockOn)
@@ -109,10 +113,10 @@ no-wrapped-total : Delivers wrapsTotals → ⊥
 unfolding inLimits identity unitVectors
 no-wrapped-total h =
     let flip = flipOrder widest in
-    let own = h .own flip refl (possible .taken widest refl) in
-    let made = wrapsTotals .plans flip .plan in
-    let some = own-passes flip refl (possible .taken widest refl) (λ s. omega (arith, s .1)) in
-    let steps = rw (own .on-its-bank) at (h .carries made (own .runs) .steps) in
+    let own = h .own flip refl (possible .taken widest refl) false in
+    let made = wrapsTotals .plans flip false .plan in
+    let some = own-passes flip refl (possible .taken widest refl) (λ s. omega (arith, s .1)) false in
+    let steps = rw (own .on-its-bank, own .keeps) at (h .carries made (own .runs) .steps) in
     let below = mod-lt (totalSteps made) {m = 2 ^ WORD} (lit< tt) in
     omega (arith, steps, below, some)
 
@@ -122,8 +126,8 @@ no-wrapped-total h =
 no-dropped-complement : Delivers plansWithoutC → ⊥
 unfolding inLimits identity unitVectors areaNamed
 no-dropped-complement h =
-    let still = ours-still (stillOrder bank) refl (possible .still-taken bank refl) (possible .still bank) in
-    let moved = h .own (flipOrder bank) refl (possible .taken bank refl) .delivers start start-fits [] (beginning plansWithoutC start) noCalls
+    let still = ours-still (stillOrder bank) refl (possible .still-taken bank refl) (possible .still bank) false in
+    let moved = h .own (flipOrder bank) refl (possible .taken bank refl) false .delivers start start-fits [] (beginning plansWithoutC start) noCalls
     (sym (still .no-step)) 0 (omega arith) in
     let at : ℕ → ℕ → ℕ = λ area y. getD (recordOf 1 (areaNamed area start) y) 0 0 in
     omega (arith, sym (ap₂ at (still .in-area-0) (possible .moves bank refl)) ∙ ap (λ (l : List ℕ). getD l 0 0) moved)
@@ -134,21 +138,39 @@ no-pass-for-nothing h =
     let order = stillOrder bank in
     let taken = possible .still-taken bank refl in
     let k = judgement→accepted order taken in
-    let none = h order refl taken (possible .still bank) .no-pass in
-    let made : ℕ → ℕ = λ number. handed number (planOf (record { geometry = bank; passes = passesMade bank (matrixOf order) 0 })) emptyPlan .count in
+    let none = h order refl taken (possible .still bank) false .no-pass in
+    let made : ℕ → ℕ = λ number. handed number (planOf (record { geometry = bank; blanks = false; passes = passesMade bank (matrixOf order) 0 })) emptyPlan .count in
     omega (arith, sym (ap made taken) ∙ none, made-length bank (matrixOf order) 0 refl (matrix-length order refl refl) (k .regular))
 
 no-refused-nothing : Answers refusesNoPasses → ⊥
 unfolding inLimits identity unitVectors numberOf
 no-refused-nothing h =
-    let still = ours-still (stillOrder bank) refl (possible .still-taken bank refl) (possible .still bank) in
-    let made = plannedFor (stillOrder bank) .plan in
+    let still = ours-still (stillOrder bank) refl (possible .still-taken bank refl) (possible .still bank) false in
+    let made = plannedFor (stillOrder bank) false .plan in
     let answer = ours-answers .step-some made (begun start) 0 in
     let refused : Refused 7 freshState ≡ cond (eqb (made .count) 0) (Refused 7 freshState) (answer .0)
     = ap (λ (k : ℕ). cond (eqb k 0) (Refused 7 freshState) (answer .0)) (sym (still .no-pass)) in
     let seven = h .numbered .of-step made (begun start) 0 (Refused 7 freshState) (answer .1) (answer .0, answer .2, refused) .gives-7 .0 refl in
-    let sound = ours-delivers .own (stillOrder bank) refl (possible .still-taken bank refl) .runs .can-run in
+    let sound = ours-delivers .own (stillOrder bank) refl (possible .still-taken bank refl) false .runs .can-run in
     true≢false (sym (sound→can-run made freshState sound (omega arith)) ∙ seven)
+
+-- ---- the small order's plan that blanks: 12 steps, of which step 4 is the first blank of the first load
+
+-- what a blank leaves in memory is zero, and not what it held
+no-sparing : Delivers blanksNothing → ⊥
+unfolding routeOf listed phaseOf tierOf total passSteps loadSteps phases tiers tierAt
+no-sparing h =
+    let marked = planThat true in
+    let held = momentOf (atStep 4) (holding 1 0) in
+    let twelve : total (routeOf marked) ≡ 12 = refl in
+    let fits : CallReady marked held = record { sound-plan = small-sound true; in-total = omega (arith, twelve); fitting = record { area0-long = refl; area1-long = refl; memory-long = refl } } in
+    let answer = ours-answers .step-some marked held 4 in
+    let zero = step-number marked held 4 (answer .0) (answer .1) (answer .2) ∙ next-number marked held 4 fits (omega (arith, twelve)) refl in
+    let below : 4 < blanksNothing .total marked = omega (arith, total-is marked (small-sound true), twelve) in
+    let made : MoveMade blanksNothing marked 4 held (holding 1 0)
+    = record { answer = answer .0; promised = (answer .1, answer .2, refl); taken = ap refuses zero } in
+    let blank = h .carries marked (small-runs true) .one-block 4 below .blanking refl in
+    omega (arith, blank .clear held (holding 1 0) made 0 (omega arith) refl)
 
 -- ---- singular orders, on the small order's bank
 
@@ -218,8 +240,8 @@ broken =
       takesIdentityAlone-fails = λ h. omega (arith, sym (ap {B = ℕ} (λ k. handed k 3 k) small-taken) ∙ must-take takesIdentityAlone h);
       wrapsSize-fails = no-wrapped-size;
       -- there is 0 in area 1 where nothing moved, and 2 in area 0
-      movesNothing-fails = λ h. omega (arith, must-deliver movesNothing h small-taken small-plan eight start (end, run-promised, refl));
-      otherArea-fails = λ h. omega (arith, must-deliver otherArea h small-taken small-plan eight end run-promised);
+      movesNothing-fails = λ h. omega (arith, must-deliver movesNothing h small-taken (small-plan false) eight start (end, run-promised, refl));
+      otherArea-fails = λ h. omega (arith, must-deliver otherArea h small-taken (small-plan false) eight end run-promised);
       -- a read changes nothing in area 1
       movesAll-fails = λ h.
           let read = first-read movesAll h (omega (arith, eight)) in
@@ -247,8 +269,11 @@ broken =
       refusesSteps-fails = λ h. omega (arith, no-calls refusesSteps h .goes-on (omega (arith, eight)) (Refused 7 freshState) start (refl, refl));
       refusesRuns-fails = λ h. omega (arith, no-calls refusesRuns h .runs-on 8 (record { number = 7; count = 0; state = freshState }) start (refl, refl));
       plansWithoutC-fails = no-dropped-complement;
+      forgetsToBlank-fails = λ h. false≢true (sym (ap (λ (p : Plan). p .blanks) (small-plan false)) ∙ h .own small refl small-taken true .keeps);
+      blanksUnasked-fails = λ h. false≢true (sym (h .own small refl small-taken false .keeps) ∙ ap (λ (p : Plan). p .blanks) (small-plan true));
+      blanksNothing-fails = no-sparing;
       alwaysPasses-fails = no-pass-for-nothing;
-      showsNothing-fails = λ h. omega (arith, h .of-order zeros _ _ planning .with-3 zeros-three .nonzero);
+      showsNothing-fails = λ h. omega (arith, h .of-order zeros _ _ (planning false) .with-3 zeros-three .nonzero);
       showsGreatest-fails = no-greatest;
       showsTurned-fails = no-turned;
       showsAlways-fails = no-always;
@@ -259,7 +284,7 @@ broken =
           let e = h .step-one plan (begun start) 0 (Done freshState) (Done freshState) (holding 0 0) (holding 1 0) tt tt .1 in
           omega (arith, ap (λ (w : Buffers). getD (w .memory) 0 0) e);
       -- a plan that can run has a listing
-      listsNothing-fails = λ h. omega (arith, rw small-sound at (h .listing-whole plan (listing plan) (omega arith) .0));
+      listsNothing-fails = λ h. omega (arith, rw (small-sound false) at (h .listing-whole plan (listing plan) (omega arith) .0));
       readsNothing-fails = λ h. omega (arith, h .numbered .reads-own small refl small-taken .0);
     }
   where

@@ -1,7 +1,7 @@
 -- Demand 1 of any mover: has each call one outcome, by which number does it refuse, and what does a refusal hand back and leave? Assumes nothing.
 -- That every call takes any input and ends is said by its contract: none has a `requires`, and the proof of each says that it returns.
 use mathlib.Core.Path.{_≡_}
-use mathlib.Core.Bool.{true}
+use mathlib.Core.Bool.{Bool, true}
 use mathlib.Core.List.{List, [], _++_}
 use Prim.Native.Nat.{ℕ, _+_, _-_, _<_, _≤_, min}
 use lib.ListN.{length, take, drop}
@@ -34,8 +34,8 @@ pub record Answers (M : Mover) : Type 0 where
   pub source-some : (order : Order) (y : ℕ) → (a : Source) × M .finds order y a
   pub source-one : (order : Order) (y : ℕ) (a b : Source) → M .finds order y a → M .finds order y b → a ≡ b
   -- planning: the number of the judgement, and the empty plan with a refusal
-  pub plan-number : (order : Order) → M .plans order .number ≡ M .judges order .number
-  pub plan-refused : (order : Order) → Refusal (M .judges order .number) → M .plans order .plan ≡ emptyPlan
+  pub plan-number : (order : Order) (blanks : Bool) → M .plans order blanks .number ≡ M .judges order .number
+  pub plan-refused : (order : Order) (blanks : Bool) → Refusal (M .judges order .number) → M .plans order blanks .plan ≡ emptyPlan
   -- the empty plan can't run: every step and every run of it is 7
   pub empty-step : (m : Moment) (k : ℕ) (r : Stepped) (w : Buffers) → M .step emptyPlan m k r w → numberOf r ≡ 7
   pub empty-run : (m : Moment) (q : ℕ) (r : Ran) (w : Buffers) → M .run emptyPlan m q r w → r .number ≡ 7
@@ -70,4 +70,4 @@ pub record Answers (M : Mover) : Type 0 where
       → (M .lists plan room ≡ length (listing plan)) × (M .leaves plan room ≡ listing plan ++ drop (length (listing plan)) room)
   pub listing-none : (plan : Plan) (room : List ℕ) → length room < length (listing plan) → (M .lists plan room ≡ 0) × (M .leaves plan room ≡ room)
   -- a text that is taken has something to list
-  pub listing-some : (text : List ℕ) (order : Order) (z : ℕ) → M .reads text 0 order z → 0 < length (listing (M .plans order .plan))
+  pub listing-some : (text : List ℕ) (order : Order) (z : ℕ) (blanks : Bool) → M .reads text 0 order z → 0 < length (listing (M .plans order blanks .plan))

@@ -1,8 +1,8 @@
 -- Demand 3 of any mover: what has a chain of its calls done to the records, and how many steps did it take? Assumes nothing.
 use mathlib.Core.Path.{_≡_}
-use mathlib.Core.Bool.{true}
+use mathlib.Core.Bool.{Bool, true, cond}
 use mathlib.Core.List.{List, []}
-use Prim.Native.Nat.{ℕ, zero, suc, _+_, _-_, _*_, _<_, _≤_}
+use Prim.Native.Nat.{ℕ, zero, suc, _+_, _-_, _*_, _%_, _<_, _≤_}
 use lib.ListN.{length}
 use Rattle.bank.specs.Limits.{ROWS, PASSES}
 use Rattle.bank.specs.Geometry.{stripes}
@@ -16,7 +16,7 @@ use Rattle.planning.specs.Columns.{phi}
 use Rattle.planning.specs.Making.{dividedUp}
 use Rattle.planning.specs.Running.{sound}
 use Rattle.planning.specs.Stored.{routeOf}
-use Rattle.moving.specs.Bytes.{recordOf}
+use Rattle.moving.specs.Bytes.{AllZero, recordOf}
 use Rattle.moving.specs.Step.{Buffers, buffersFit}
 use Rattle.moving.specs.Call.{Moment}
 use Rattle.mover.specs.declared.step.Stepped.{Stepped}
@@ -41,9 +41,9 @@ pub record Runnable (plan : Plan) : Type 0 where
   pub can-run : sound plan ≡ true
   pub room : length (plan .rows) ≡ PASSES * ROWS
 
--- 2N/(BD), the steps of a pass: a read and a write for each stripe
+-- 2N/(BD), the steps of a pass: a read and a write for each stripe; 3N/(BD) where the plan blanks: a blank for each stripe too
 abbrev pub stepsAPass : Plan → ℕ
-stepsAPass plan = let g = plan .geometry in stripes g + stripes g
+stepsAPass plan = cond (plan .blanks) 3 2 * stripes (plan .geometry)
 
 -- where a chain of the mover's calls has come from the fresh state
 pub record Reached (M : Mover) (plan : Plan) (cs : List Called) (end : Moment) : Type 0 where
@@ -56,13 +56,29 @@ pub record Reached (M : Mover) (plan : Plan) (cs : List Called) (end : Moment) :
   pub runs-on : (q : ℕ) (r : Ran) (w : Buffers) → M .run plan end q r w → r .number ≡ 0
 
 pub record Carries (M : Mover) (plan : Plan) : Type 0 where
-  -- the total: 2N/(BD) steps for each pass
+  -- the total: 2N/(BD) steps for each pass, or 3N/(BD)
   pub steps : M .total plan ≡ stepsAPass plan * plan .count
   -- no step moves more than one block on a drive, and every other byte stays
   pub one-block : (k : ℕ) → k < M .total plan → OneStep M plan k
   -- any bytes of the right lengths, and any chain of calls
   pub chains : (v : Buffers) → buffersFit (plan .geometry) v ≡ true → (cs : List Called) (end : Moment)
       → Chain M plan (beginning M v) cs end → Reached M plan cs end
+
+-- ---- a plan that blanks, whoever made it
+
+-- what a chain from any bytes of the right lengths has left of the records
+pub record Blanked (M : Mover) (plan : Plan) : Type 0 where
+  -- after each whole pass the area just read, area p mod 2, is zero in every byte, and so is memory
+  pub after-pass : (v : Buffers) → buffersFit (plan .geometry) v ≡ true → (cs : List Called) (end : Moment) → Chain M plan (beginning M v) cs end
+      → (p : ℕ) → p < plan .count → end .state .next .0 ≡ stepsAPass plan * (p + 1)
+      → AllZero (areaNamed (p % 2) (end .buffers)) × AllZero (end .buffers .memory)
+  -- so at the end of one or more passes is the area that the mover doesn't name, and memory
+  pub at-end : (v : Buffers) → buffersFit (plan .geometry) v ≡ true → (cs : List Called) (end : Moment) → Chain M plan (beginning M v) cs end
+      → 0 < plan .count → end .state .next .0 ≡ M .total plan
+      → AllZero (areaNamed (1 - M .area plan) (end .buffers)) × AllZero (end .buffers .memory)
+  -- with no passes nothing is blanked: no chain changes a byte
+  pub no-pass : (v : Buffers) → buffersFit (plan .geometry) v ≡ true → (cs : List Called) (end : Moment) → Chain M plan (beginning M v) cs end
+      → plan .count ≡ 0 → end .buffers ≡ v
 
 -- ---- a plan for an order
 
@@ -81,19 +97,22 @@ roundsFor order =
     let g = order .geometry in
     dividedUp (rank (phi (g .m) (columns (g .n) (matrixOf order))) (g .m)) (g .m - g .b)
 
--- the plan that the mover makes for an order
-pub record OwnPlan (M : Mover) (order : Order) : Type 0 where
-  pub on-its-bank : M .plans order .plan .geometry ≡ order .geometry
-  pub runs : Runnable (M .plans order .plan)
-  pub delivers : Delivered M order (M .plans order .plan)
+-- the plan that the mover makes for an order, where the spent area is to be blanked or not
+pub record OwnPlan (M : Mover) (order : Order) (blanks : Bool) : Type 0 where
+  -- it keeps what was asked
+  pub keeps : M .plans order blanks .plan .blanks ≡ blanks
+  pub on-its-bank : M .plans order blanks .plan .geometry ≡ order .geometry
+  pub runs : Runnable (M .plans order blanks .plan)
+  pub delivers : Delivered M order (M .plans order blanks .plan)
   -- passes at most rank φ/(m - b) rounded up, plus one
-  pub passes : M .plans order .plan .count ≤ roundsFor order + 1
+  pub passes : M .plans order blanks .plan .count ≤ roundsFor order + 1
 
 -- ---- the demand
 
 pub record Delivers (M : Mover) : Type 0 where
-  pub own : (order : Order) → length (order .rows) ≡ ROWS → M .judges order .number ≡ 0 → OwnPlan M order
+  pub own : (order : Order) → length (order .rows) ≡ ROWS → M .judges order .number ≡ 0 → (blanks : Bool) → OwnPlan M order blanks
   pub carries : (plan : Plan) → Runnable plan → Carries M plan
+  pub blanked : (plan : Plan) → Runnable plan → plan .blanks ≡ true → Blanked M plan
   -- the latest step again at will
   pub repeats : Repeats M
 

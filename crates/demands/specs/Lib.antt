@@ -10,6 +10,7 @@ pub mod OneStep
 pub mod Repeats
 pub mod Delivers
 pub mod Demands
+pub mod Unmarked
 pub mod Still
 pub mod PassCounts
 pub mod Chains

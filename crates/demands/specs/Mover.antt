@@ -1,4 +1,5 @@
 -- What is a mover? What its calls promise, and nothing else: each answer, and the bytes that are left. Assumes nothing.
+use mathlib.Core.Bool.{Bool}
 use mathlib.Core.List.{List}
 use Prim.Native.Nat.{ℕ}
 use Rattle.order.specs.declared.Order.{Order}
@@ -27,8 +28,8 @@ pub record Mover : Type 1 where
   pub judges : Order → Verdict
   pub sends : Order → ℕ → Target
   pub finds : Order → ℕ → Source → Type 0
-  -- the number, the plan and z for an order; a plan's total, and the area where its result lies
-  pub plans : Order → Planned
+  -- the number, the plan and z for an order, where the spent area is to be blanked or not; a plan's total, and the area where its result lies
+  pub plans : Order → Bool → Planned
   pub total : Plan → ℕ
   pub area : Plan → ℕ
   -- the state at the start, a step, a run

@@ -7,7 +7,7 @@ use Prim.Native.Nat.{ℕ, _-_, _/_, _%_, _^_, _<_}
 use lib.ListN.{length, getD}
 use Rattle.bank.specs.Geometry.{drives, blockAt, driveAt, tierAt}
 use Rattle.planning.specs.declared.Plan.{Plan}
-use Rattle.planning.specs.declared.Phase.the-variants.{Reads, Writes}
+use Rattle.planning.specs.declared.Phase.the-variants.{Reads, Writes, Blanks}
 use Rattle.planning.specs.Stored.{routeOf}
 use Rattle.moving.specs.Number.{passOf, phaseOf, tierOf}
 use Rattle.moving.specs.Step.{Buffers, areaRead, areaWritten, bytesOf}
@@ -63,6 +63,22 @@ pub record WriteStep (M : Mover) (plan : Plan) (k : ℕ) (blockOn : ℕ → ℕ)
       → (i : ℕ) → i < length (writtenBytes plan k (m .buffers)) → InBlocks plan blockOn i
       → getD (writtenBytes plan k w) i 0 ≡ getD (writtenBytes plan k w′) i 0
 
+-- a blank changes no byte of the area written, in the area read only bytes of its blocks, and in memory only the places of its tier;
+-- what it leaves there is zero
+pub record BlankStep (M : Mover) (plan : Plan) (k : ℕ) (blockOn : ℕ → ℕ) : Type 0 where
+  pub written-stays : (m : Moment) (r : Stepped) (w : Buffers) → M .step plan m k r w → writtenBytes plan k w ≡ writtenBytes plan k (m .buffers)
+  pub area-long : (m : Moment) (r : Stepped) (w : Buffers) → M .step plan m k r w
+      → length (readBytes plan k w) ≡ length (readBytes plan k (m .buffers))
+  pub memory-long : (m : Moment) (r : Stepped) (w : Buffers) → M .step plan m k r w → length (w .memory) ≡ length (m .buffers .memory)
+  pub others-stay : (m : Moment) (r : Stepped) (w : Buffers) → M .step plan m k r w → (i : ℕ) → i < length (readBytes plan k (m .buffers))
+      → (InBlocks plan blockOn i → ⊥) → getD (readBytes plan k w) i 0 ≡ getD (readBytes plan k (m .buffers)) i 0
+  pub places : (m : Moment) (r : Stepped) (w : Buffers) → M .step plan m k r w → (i : ℕ) → i < length (m .buffers .memory)
+      → (InTier plan k i → ⊥) → getD (w .memory) i 0 ≡ getD (m .buffers .memory) i 0
+  pub blank : (m : Moment) (w : Buffers) → MoveMade M plan k m w → (i : ℕ) → i < length (readBytes plan k (m .buffers))
+      → InBlocks plan blockOn i → getD (readBytes plan k w) i 0 ≡ 0
+  pub clear : (m : Moment) (w : Buffers) → MoveMade M plan k m w → (i : ℕ) → i < length (m .buffers .memory)
+      → InTier plan k i → getD (w .memory) i 0 ≡ 0
+
 -- the numbers of the blocks of an area
 abbrev pub BlockOf : Plan → ℕ → Type 0
 BlockOf plan y = let g = plan .geometry in y < 2 ^ (g .n - g .b)
@@ -71,10 +87,11 @@ BlockOf plan y = let g = plan .geometry in y < 2 ^ (g .n - g .b)
 abbrev pub drivesOf : Plan → ℕ
 drivesOf plan = drives (plan .geometry)
 
--- on each drive there is one block of the area, and the step is a read or a write of those
+-- on each drive there is one block of the area, and the step is a read, a write or a blank of those
 pub record OneStep (M : Mover) (plan : Plan) (k : ℕ) : Type 0 where
   pub blockOn : ℕ → ℕ
   pub in-area : (q : ℕ) → q < drivesOf plan → BlockOf plan (blockOn q)
   pub on-drive : (q : ℕ) → q < drivesOf plan → blockOn q % drivesOf plan ≡ q
   pub reading : phaseOf (routeOf plan) k ≡ Reads → ReadStep M plan k blockOn
   pub writing : phaseOf (routeOf plan) k ≡ Writes → WriteStep M plan k blockOn
+  pub blanking : phaseOf (routeOf plan) k ≡ Blanks → BlankStep M plan k blockOn

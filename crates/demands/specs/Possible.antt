@@ -3,7 +3,7 @@
 -- and every mover that has demands 1 and 3 comes to the end of each order that it takes.
 -- Assumes nothing.
 use mathlib.Core.Path.{_≡_}
-use mathlib.Core.Bool.{true}
+use mathlib.Core.Bool.{Bool, true}
 use mathlib.Core.List.{List, [], _∷_, _++_}
 use Prim.Native.Nat.{ℕ, zero, suc, _-_, _≤_}
 use lib.ListN.{length, replicate}
@@ -83,6 +83,6 @@ pub record Possible : Type 1 where
   pub still-taken : (g : Geometry) → inLimits g ≡ true → ours .judges (stillOrder g) .number ≡ 0
   pub still : (g : Geometry) → StillOrder (stillOrder g)
   pub refused-3 : (g : Geometry) → inLimits g ≡ true → ours .judges (zeroOrder g) ≡ record { number = 3; z = record { 0 = 1 } }
-  pub comes : (M : Mover) → Answers M → Delivers M → (order : Order) → length (order .rows) ≡ ROWS → M .judges order .number ≡ 0
-      → (v : Buffers) → buffersFit (order .geometry) v ≡ true → (k : ℕ) → k ≤ M .total (M .plans order .plan) → (more : ℕ → ℕ)
-      → Comes M (M .plans order .plan) v (busyCalls (M .total (M .plans order .plan)) k more)
+  pub comes : (M : Mover) → Answers M → Delivers M → (order : Order) → length (order .rows) ≡ ROWS → M .judges order .number ≡ 0 → (blanks : Bool)
+      → (v : Buffers) → buffersFit (order .geometry) v ≡ true → (k : ℕ) → k ≤ M .total (M .plans order blanks .plan) → (more : ℕ → ℕ)
+      → Comes M (M .plans order blanks .plan) v (busyCalls (M .total (M .plans order blanks .plan)) k more)

@@ -1,5 +1,6 @@
 -- Why is an order singular? What goes with 3, of any mover: the smallest address by which two sites can see it. Assumes nothing.
 use mathlib.Core.Path.{_≡_}
+use mathlib.Core.Bool.{Bool}
 use mathlib.Core.List.{List}
 use Prim.Native.Nat.{ℕ, _<_}
 use lib.Bits.{bitXor}
@@ -30,7 +31,7 @@ pub data Gives (M : Mover) (order : Order) : ℕ → ℕ → Type 0 where
   judging : Gives M order (M .judges order .number) (M .judges order .z .0)
   forwards : (x : ℕ) → Gives M order (M .sends order x .number) (M .sends order x .z .0)
   backwards : (y : ℕ) (a : Source) → M .finds order y a → Gives M order (meaningOf a .number) (meaningOf a .z)
-  planning : Gives M order (M .plans order .number) (M .plans order .z .0)
+  planning : (blanks : Bool) → Gives M order (M .plans order blanks .number) (M .plans order blanks .z .0)
   reading : (text : List ℕ) (g : Geometry) → Inside text g → Whole text g order
       → (k : ℕ) (answer : Order) (z : ℕ) → M .reads text k answer z → Gives M order k z
 

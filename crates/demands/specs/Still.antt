@@ -1,6 +1,6 @@
 -- What does a mover do for an order that leaves every record where it is? Nothing, and it costs nothing. Assumes nothing.
 use mathlib.Core.Path.{_≡_}
-use mathlib.Core.Bool.{true, false}
+use mathlib.Core.Bool.{Bool, true, false}
 use mathlib.Core.List.{List, [], _∷_, _++_}
 use mathlib.Core.Logic.{_↔_}
 use Prim.Native.Nat.{ℕ, _<_, _≤_}
@@ -57,6 +57,8 @@ pub record NoSteps (M : Mover) (order : Order) (plan : Plan) : Type 0 where
   pub listed : (room : List ℕ) → length zeroLines ≤ length room
       → (M .lists plan room ≡ length zeroLines) × (M .leaves plan room ≡ zeroLines ++ drop (length zeroLines) room)
 
--- so it is for each such order that is taken
+-- so it is for each such order that is taken, also where the spent area is to be blanked: none is spent
 abbrev pub CostsNothing : Mover → Type 0
-CostsNothing M = (order : Order) → length (order .rows) ≡ ROWS → M .judges order .number ≡ 0 → StillOrder order → NoSteps M order (M .plans order .plan)
+CostsNothing M =
+    (order : Order) → length (order .rows) ≡ ROWS → M .judges order .number ≡ 0 → StillOrder order → (blanks : Bool)
+    → NoSteps M order (M .plans order blanks .plan)

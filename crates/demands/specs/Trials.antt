@@ -1,5 +1,5 @@
 -- What do our calls answer for the trial orders? The table; its one theorem is in proofs/Trials.antt. Assumes nothing.
-use mathlib.Core.Bool.{Bool, true, false, _&&_}
+use mathlib.Core.Bool.{Bool, true, false, not, _&&_}
 use mathlib.Core.List.{List, [], _∷_, _++_}
 use Prim.Native.Nat.{ℕ, zero, suc, _+_, _-_, _*_}
 use lib.Dec.{eqb}
@@ -49,12 +49,12 @@ abbrev pub held : Plan → List ℕ
 held plan = sizes (plan .geometry) ++ (plan .count ∷ (plan .rows ++ plan .complements))
 
 -- with 0 the plan is for the order's bank, and has its passes, steps and area of the result; with a refusal it is zero
--- everywhere
+-- everywhere; neither blanks
 abbrev pub asPlanned : ℕ → Trial → Plan → Bool
 asPlanned zero t plan =
-    sameNumbers (sizes (plan .geometry)) (sizes (t .order .geometry)) && eqb (plan .count) (t .passes) && eqb (ours .total plan) (t .steps)
+    not (plan .blanks) && sameNumbers (sizes (plan .geometry)) (sizes (t .order .geometry)) && eqb (plan .count) (t .passes) && eqb (ours .total plan) (t .steps)
     && eqb (ours .area plan) (t .area) && asListed (t .listed) (routeOf plan .passes)
-asPlanned (suc k) t plan = sameNumbers (held plan) (replicate (6 + PASSES * ROWS + PASSES) 0)
+asPlanned (suc k) t plan = not (plan .blanks) && sameNumbers (held plan) (replicate (6 + PASSES * ROWS + PASSES) 0)
 
 -- what a planning call answers
 abbrev pub planned : Trial → Planned → Bool
@@ -65,7 +65,7 @@ abbrev pub sends : Trial → Target → Bool
 sends t answer = eqb (answer .number) (t .number) && eqb (answer .address .0) (t .target) && eqb (answer .z .0) (t .z)
 
 abbrev pub right : Trial → Bool
-right t = sends t (ours .sends (t .order) (t .address)) && planned t (ours .plans (t .order))
+right t = sends t (ours .sends (t .order) (t .address)) && planned t (ours .plans (t .order) false)
 
 -- n b d m R, the rows, c
 abbrev order : ℕ → ℕ → ℕ → ℕ → ℕ → List ℕ → ℕ → Order

@@ -1,6 +1,6 @@
 -- Which movers are of no use, and which demand does each of them break? Each is ours but for what its name says. Assumes nothing.
 use mathlib.Core.Path.{_≡_}
-use mathlib.Core.Bool.{true, cond, _&&_}
+use mathlib.Core.Bool.{Bool, true, false, cond, _&&_}
 use mathlib.Core.List.{List}
 use Prim.Native.Nat.{ℕ, _+_, _-_, _%_, _^_}
 use lib.Dec.{eqb}
@@ -41,7 +41,7 @@ use Rattle.demands.specs.Shows.{Explains}
 use Rattle.demands.specs.Still.{CostsNothing}
 
 -- ours but for these; a question backwards is answered as ours is
-abbrev altered : (Order → Verdict) → (Order → ℕ → Target) → (Order → Planned) → (Plan → ℕ) → (Plan → ℕ) → State → StepRule → RunRule
+abbrev altered : (Order → Verdict) → (Order → ℕ → Target) → (Order → Bool → Planned) → (Plan → ℕ) → (Plan → ℕ) → State → StepRule → RunRule
     → (List ℕ → ℕ → Order → ℕ → Type 0) → (Plan → List ℕ → ℕ) → (Plan → List ℕ → List ℕ) → Mover
 altered judges sends plans total area fresh step run reads lists leaves =
     record {
@@ -64,7 +64,7 @@ abbrev answering : (Order → Verdict) → (Order → ℕ → Target) → Mover
 answering judges sends = altered judges sends plannedFor totalSteps resultArea freshState StepPromise RunPromise Reads written roomAfter
 
 -- ours with other plans
-abbrev planning : (Order → Planned) → Mover
+abbrev planning : (Order → Bool → Planned) → Mover
 planning plans = altered verdict targetOf plans totalSteps resultArea freshState StepPromise RunPromise Reads written roomAfter
 
 -- ours with other totals, areas, starts, steps and runs
@@ -84,7 +84,7 @@ refusesAll =
       judges = λ order. record { number = 1; z = record { 0 = 0 } };
       sends = λ order x. record { number = 1; address = record { 0 = 0 }; z = record { 0 = 0 } };
       finds = λ order y a. a ≡ NoSource 1 (record { 0 = 0 });
-      plans = λ order. record { number = 1; plan = emptyPlan; z = record { 0 = 0 } };
+      plans = λ order blanks. record { number = 1; plan = emptyPlan; z = record { 0 = 0 } };
       total = totalSteps;
       area = resultArea;
       fresh = freshState;
@@ -150,7 +150,7 @@ loadRead plan k v =
 abbrev loadStep : StepRule
 loadStep plan m k r w =
     (u : Buffers) × StepPromise plan m k r u
-    × (w ≡ buffersBy (numberOf r) (byPhase (phaseOf (routeOf plan) k) (loadRead plan k (m .buffers)) u) (m .buffers))
+    × (w ≡ buffersBy (numberOf r) (byPhase (phaseOf (routeOf plan) k) (loadRead plan k (m .buffers)) u u) (m .buffers))
 
 abbrev pub readsWholeLoad : Mover
 readsWholeLoad = stepping totalSteps resultArea freshState loadStep RunPromise
@@ -192,13 +192,27 @@ wrapsTotals = stepping (λ plan. totalSteps plan % 2 ^ WORD) resultArea freshSta
 abbrev pub alwaysPasses : Mover
 alwaysPasses =
     planning
-    (λ order. let g = order .geometry in
-    let made = planOf (record { geometry = g; passes = passesMade g (matrixOf order) (order .complement) }) in
-    record { number = judgement order; plan = handed (judgement order) made emptyPlan; z = plannedFor order .z })
+    (λ order blanks. let g = order .geometry in
+    let made = planOf (record { geometry = g; blanks = blanks; passes = passesMade g (matrixOf order) (order .complement) }) in
+    record { number = judgement order; plan = handed (judgement order) made emptyPlan; z = plannedFor order blanks .z })
 
 -- it plans as if c were 0, and so makes no pass for the identity with any c
 abbrev pub plansWithoutC : Mover
-plansWithoutC = planning (λ order. plannedFor (record { geometry = order .geometry; rows = order .rows; complement = 0 }))
+plansWithoutC = planning (λ order blanks. plannedFor (record { geometry = order .geometry; rows = order .rows; complement = 0 }) blanks)
+
+-- it forgets that the spent area is to be blanked, or blanks it unasked
+abbrev pub forgetsToBlank : Mover
+forgetsToBlank = planning (λ order blanks. plannedFor order false)
+
+abbrev pub blanksUnasked : Mover
+blanksUnasked = planning (λ order blanks. plannedFor order true)
+
+-- it answers a blank as ours does, and blanks nothing
+abbrev sparingStep : StepRule
+sparingStep plan m k r w = (u : Buffers) × StepPromise plan m k r u × (w ≡ byPhase (phaseOf (routeOf plan) k) u u (m .buffers))
+
+abbrev pub blanksNothing : Mover
+blanksNothing = stepping totalSteps resultArea freshState sparingStep RunPromise
 
 -- it refuses the steps of a plan of no passes by 7
 abbrev passStep : StepRule
@@ -227,7 +241,7 @@ promisesNothing = stepping totalSteps resultArea freshState (λ plan m k r w. Un
 
 -- planning, it shows nothing: 0 with every number
 abbrev pub showsNothing : Mover
-showsNothing = planning (λ order. record { number = judgement order; plan = plannedFor order .plan; z = record { 0 = 0 } })
+showsNothing = planning (λ order blanks. record { number = judgement order; plan = plannedFor order blanks .plan; z = record { 0 = 0 } })
 
 -- asked forwards, it shows the greatest address that A sends to zero, and not the least
 abbrev greatest : ℕ → List ℕ → ℕ
@@ -278,6 +292,9 @@ pub record Broken : Type 0 where
   pub refusesSteps-fails : Delivers refusesSteps → ⊥
   pub refusesRuns-fails : Delivers refusesRuns → ⊥
   pub plansWithoutC-fails : Delivers plansWithoutC → ⊥
+  pub forgetsToBlank-fails : Delivers forgetsToBlank → ⊥
+  pub blanksUnasked-fails : Delivers blanksUnasked → ⊥
+  pub blanksNothing-fails : Delivers blanksNothing → ⊥
   pub alwaysPasses-fails : CostsNothing alwaysPasses → ⊥
   pub showsNothing-fails : Explains showsNothing → ⊥
   pub showsGreatest-fails : Explains showsGreatest → ⊥

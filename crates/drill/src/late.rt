@@ -85,7 +85,15 @@ fn proved_mover(text: &[u8], order: Order) {
     let mut run = keys();
     let mut spare = [0u8; 16];
     let mut memory = [0u8; 4];
-    deliver(text, 2, Progress::Silent, &mut run, &mut spare, &mut memory);
+    deliver(
+        text,
+        false,
+        2,
+        Progress::Silent,
+        &mut run,
+        &mut spare,
+        &mut memory,
+    );
     look_all(order, &run);
 }
 
@@ -95,7 +103,7 @@ pub(crate) fn tell(text: &[u8]) {
     words(b"Key 0 begins at address 0, key 1 at address 1, and so on.\n");
     words(b"The order is the bit reversal: key 1 is for slot 8, key 8 is for slot 1.\n");
     let read = read_order(text);
-    let planned = make_plan(read.order);
+    let planned = make_plan(read.order, false);
     number(b"It takes ", total_steps(planned.plan));
     number(b" steps, in ", wide(planned.plan.count));
     words(b" passes.\n");

@@ -40,7 +40,7 @@ fn main() {
         refuse_source(answer);
         return;
     };
-    let planned = make_plan(read.order);
+    let planned = make_plan(read.order, false);
     let mut room = [0u8; ROOM];
     let k = list_plan(planned.plan, &mut room);
     io::write_all(STDOUT_FILENO, &room[..k]);

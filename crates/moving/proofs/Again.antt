@@ -3,13 +3,13 @@ use mathlib.Core.Path.{_≡_, refl}
 use mathlib.Core.List.{List}
 use Prim.Native.Nat.{ℕ}
 use Rattle.bank.specs.declared.Geometry.{Geometry}
-use Rattle.moving.proofs.Bytes.{copied-again}
+use Rattle.moving.proofs.Bytes.{copied-again, zeroed-again}
 use Rattle.moving.specs.Bytes.{copied}
 use Rattle.moving.specs.Number.{loadOf, passOf, phaseOf, tierOf}
 use Rattle.moving.specs.Step.Area.{zeroth, first}
-use Rattle.moving.specs.Step.{Area, Buffers, areaRead, byPhase, bytesOf, move, otherArea, readFrom, readMove, readTakes, withBytes, withMemory, writeMove}
+use Rattle.moving.specs.Step.{Area, Buffers, areaRead, blankMove, byPhase, bytesOf, move, otherArea, readFrom, readMove, readTakes, withBytes, withMemory, writeMove}
 use Rattle.planning.specs.declared.Phase.{Phase}
-use Rattle.planning.specs.declared.Phase.the-variants.{Reads, Writes}
+use Rattle.planning.specs.declared.Phase.the-variants.{Reads, Writes, Blanks}
 use Rattle.planning.specs.Pass.{Pass, Route, passAt}
 
 -- ---- the areas
@@ -22,6 +22,10 @@ pub area-other : (a : Area) (l : List ℕ) (v : Buffers) → bytesOf a (withByte
 area-other zeroth l v = refl
 area-other first l v = refl
 
+pub other-area : (a : Area) (l : List ℕ) (v : Buffers) → bytesOf (otherArea a) (withBytes a l v) ≡ bytesOf (otherArea a) v
+other-area zeroth l v = refl
+other-area first l v = refl
+
 pub area-memory : (a : Area) (l : List ℕ) (v : Buffers) → withBytes a l v .memory ≡ v .memory
 area-memory zeroth l v = refl
 area-memory first l v = refl
@@ -33,6 +37,11 @@ memory-area first l v = refl
 area-twice : (a : Area) (l k : List ℕ) (v : Buffers) → withBytes a l (withBytes a k v) ≡ withBytes a l v
 area-twice zeroth l k v = refl
 area-twice first l k v = refl
+
+-- memory and an area, changed and changed again
+both-twice : (a : Area) (l k m n : List ℕ) (v : Buffers) → withMemory m (withBytes a l (withMemory n (withBytes a k v))) ≡ withMemory m (withBytes a l v)
+both-twice zeroth l k m n v = refl
+both-twice first l k m n v = refl
 
 -- ---- a move done again
 
@@ -47,10 +56,15 @@ write-again : (g : Geometry) (pass : Pass) (p load t : ℕ) (v : Buffers)
 unfolding writeMove
 write-again g pass p load t v = rw (area-twice, area-memory, area-same, copied-again)
 
-by-phase : (k : Phase) (f h : Buffers → Buffers) (v : Buffers) → f (f v) ≡ f v → h (h v) ≡ h v
-    → byPhase k (f (byPhase k (f v) (h v))) (h (byPhase k (f v) (h v))) ≡ byPhase k (f v) (h v)
-by-phase Reads f h v a b = cc
-by-phase Writes f h v a b = cc
+blank-again : (g : Geometry) (p load t : ℕ) (v : Buffers) → blankMove g p load t (blankMove g p load t v) ≡ blankMove g p load t v
+unfolding blankMove
+blank-again g p load t v = rw (both-twice, memory-area, area-same, zeroed-again, zeroed-again)
+
+by-phase : (k : Phase) (f h z : Buffers → Buffers) (v : Buffers) → f (f v) ≡ f v → h (h v) ≡ h v → z (z v) ≡ z v
+    → byPhase k (f (byPhase k (f v) (h v) (z v))) (h (byPhase k (f v) (h v) (z v))) (z (byPhase k (f v) (h v) (z v))) ≡ byPhase k (f v) (h v) (z v)
+by-phase Reads f h z v a b c = cc
+by-phase Writes f h z v a b c = cc
+by-phase Blanks f h z v a b c = cc
 
 pub move-again : (route : Route) (s : ℕ) (v : Buffers) → move route s (move route s v) ≡ move route s v
 unfolding move
@@ -59,5 +73,5 @@ move-again route s v =
     let p = passOf route s in
     let l = loadOf route s in
     let t = tierOf route s in
-    by-phase (phaseOf route s) (readMove g p l t) (writeMove g (passAt route p) p l t) v
-    (read-again g p l t v) (write-again g (passAt route p) p l t v)
+    by-phase (phaseOf route s) (readMove g p l t) (writeMove g (passAt route p) p l t) (blankMove g p l t) v
+    (read-again g p l t v) (write-again g (passAt route p) p l t v) (blank-again g p l t v)

@@ -1,6 +1,7 @@
--- What does one pass do to the records, and what do all passes? Assumes nothing.
+-- What do all passes do to the records, and what does each leave behind it? Assumes nothing.
 use mathlib.Core.Path.{_∙_, _≡_, ap, ap₂, refl, subst, sym}
 use mathlib.Core.Logic.{⊎-elim}
+use mathlib.Core.Bool.{true}
 use mathlib.Core.List.{List, [], _++_, _∷_}
 use Prim.Native.Nat.{_%_, _*_, _+_, _<_, _≤_, suc, zero, ℕ}
 use native.Mathlib.Nat.{le-refl, mul-comm, zero-mul}
@@ -16,7 +17,7 @@ use Rattle.bank.specs.Geometry.{memorySize, records}
 use Rattle.bank.specs.declared.Geometry.{Geometry}
 use Rattle.moving.proofs.Bytes.{same-record}
 use Rattle.moving.proofs.Pass.{PassDone, beforePass, pass-done}
-use Rattle.moving.specs.Bytes.{recordOf}
+use Rattle.moving.specs.Bytes.{AllZero, recordOf}
 use Rattle.moving.specs.Step.Area.{zeroth, first}
 use Rattle.moving.specs.Step.{Area, Buffers, areaRead, areaWritten, bytesOf, move, movesFrom, otherArea, sourceOf}
 use Rattle.planning.specs.Pass.{Pass, Route, passAt, passSteps, performed, total}
@@ -78,11 +79,16 @@ module _ (route : Route) (v₀ : Buffers) where
         ap (λ (l : List Pass). performed l x) (take-suc (route .passes) k (record { rows = []; complement = 0 }) h)
         ∙ performed-snoc (take k (route .passes)) (passAt route k) x
 
+    -- what pass k does
+    its-pass : (k : ℕ) → k < length (route .passes) → Reached k (beforePass route v₀ k)
+        → PassDone route (sourceOf g (passAt route k)) k (beforePass route v₀ k) (beforePass route v₀ (suc k))
+    its-pass k h was = pass-done route ok k v₀ (source-in g (passAt route k) (runs k h)) (was .here-long) (was .other-long) (was .memory-long)
+
     reached-next : (k : ℕ) → k < length (route .passes) → Reached k (beforePass route v₀ k) → Reached (suc k) (beforePass route v₀ (suc k))
     reached-next k h was =
         record {
           here-long = ap (λ (a : Area). length (bytesOf a w)) (read-next k) ∙ done .long ∙ was .other-long;
-          other-long = ap (λ (a : Area). length (bytesOf a w)) (written-next k) ∙ ap length (done .reads) ∙ was .here-long;
+          other-long = ap (λ (a : Area). length (bytesOf a w)) (written-next k) ∙ done .reads-long ∙ was .here-long;
           memory-long = done .memory-long;
           in-area = λ x hx. subst (λ (y : ℕ). y < records g) (sym (more k h x)) (target-in g q (runs k h) (place k x));
           bytes = λ x j hx hj.
@@ -99,8 +105,8 @@ module _ (route : Route) (v₀ : Buffers) where
         w : Buffers
         w = beforePass route v₀ (suc k)
 
-        done : PassDone g (sourceOf g q) k (beforePass route v₀ k) w
-        done = pass-done route ok k v₀ (source-in g q (runs k h)) (was .other-long) (was .memory-long)
+        done : PassDone route (sourceOf g q) k (beforePass route v₀ k) w
+        done = its-pass k h was
 
     reached-start : Reached 0 v₀
     unfolding performed
@@ -117,6 +123,14 @@ module _ (route : Route) (v₀ : Buffers) where
     unfolding movesFrom
     reached zero h = subst (λ (i : ℕ). Reached 0 (movesFrom (move route) 0 i v₀)) (sym (zero-mul (passSteps route))) reached-start
     reached (suc k) h = reached-next k h (reached k (omega arith))
+
+    -- after a pass with blanks, the area that it read and memory are zero
+    pub pass-spent : route .blanks ≡ true → (p : ℕ) → p < length (route .passes)
+        → AllZero (bytesOf (areaRead p) (beforePass route v₀ (suc p))) × AllZero (beforePass route v₀ (suc p) .memory)
+    pass-spent e p h = (done .spent e, done .cleared e)
+      where
+        done : PassDone route (sourceOf g (passAt route p)) p (beforePass route v₀ p) (beforePass route v₀ (suc p))
+        done = its-pass p h (reached p (omega arith))
 
     -- ALL PASSES. The area of the pass count holds, at the place that the passes give, the record that began at x in area 0
     pub all-passes : (x : ℕ) → x < records g

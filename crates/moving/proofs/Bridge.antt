@@ -4,82 +4,123 @@ use mathlib.Core.Bool.{Bool, cond, false, true}
 use mathlib.Core.List.{List, map}
 use Prim.Native.Nat.{_%_, _*_, _+_, _-_, _/_, _<_, _^_, _≤_, suc, ℕ}
 use native.Mathlib.Nat.{add-mul, add-zero, div-add-mod', div-div-eq-div-mul, div-lt-iff-lt-mul, le-div-iff-mul-le, lt-of-lt-of-le}
-use native.Mathlib.Nat.{mod-eq-of-lt, mod-lt, mul-assoc, mul-pos, suc-mul}
+use native.Mathlib.Nat.{mod-eq-of-lt, mod-lt, mul-assoc, mul-comm, mul-left-comm, mul-pos, suc-mul}
 use native.Mathlib.Omega.{arith}
 use borrow.Author.Tests.{eq-eqb, eqb-true, ne-eqb}
 use lib.Arith.{digits-div}
 use lib.Bits.{bitXor, xor-block, xor-lt, xor-shifted}
 use lib.Dec.{eqb}
-use lib.Pow.{pow-mono, pow-pos}
+use lib.Pow.{pow-add, pow-mono, pow-pos}
 use lib.ListN.{getD, length, take}
-use Rattle.algebra.proofs.Digits.{pow-split, share}
+use Rattle.algebra.proofs.Digits.{bits-from, pow-split, share}
 use Rattle.algebra.proofs.Search.{and-l, and-r}
 use Rattle.algebra.specs.Matrix.{applied, columns, inverse, target}
 use Rattle.algebra.specs.Vector.{comb, unitVectors}
-use Rattle.bank.specs.Geometry.{block, blockAt, driveAt, drives, loadAt, loads, memorySize, records, tierAt, tiers}
+use Rattle.bank.specs.Geometry.{block, blockAt, driveAt, drives, loadAt, loads, memorySize, records, stripeAt, tierAt, tiers}
 use Rattle.bank.specs.declared.Geometry.{Geometry}
 use Rattle.moving.proofs.Bytes.{each-ext}
 use Rattle.moving.proofs.Drives.{block-place, block-test, first-lt, target-block-in}
-use Rattle.moving.proofs.Laid.{by-run, within-after, within-before, within-in}
+use Rattle.moving.proofs.Laid.{by-run, within-after, within-ap, within-before, within-in}
 use Rattle.moving.proofs.Low.{block-drive, on-load, place-block, place-drive, place-form, place-lt}
-use Rattle.moving.proofs.Numbers.{stripe-pos}
+use Rattle.moving.proofs.Numbers.{both-test, memory-is, same-digits, stripe-pos, tier-lt, tiers-pow}
 use Rattle.moving.specs.Blocks.{blockStart, landing, placeIn, targetBlock}
-use Rattle.moving.specs.Bytes.{copied}
-use Rattle.moving.specs.Laid.{laid, landed, within}
-use Rattle.moving.specs.Step.{readFrom, readTakes, sourceOf, writeFrom, writeTakes}
+use Rattle.moving.specs.Bytes.{copied, zeroed}
+use Rattle.moving.specs.Laid.{cleared, laid, landed, within}
+use Rattle.moving.specs.Step.{blankTakes, readFrom, readTakes, sourceOf, writeFrom, writeTakes}
 use Rattle.planning.specs.Pass.{Pass}
 use Rattle.planning.specs.Inner.{PassRuns}
 use Rattle.bank.proofs.Limits.{Allowed}
 
--- ---- a read is one run of bytes
+-- ---- a read, and a blank, is one run of bytes
+
+-- run s of S bytes, as a test of the index
+run-test : (S s i v x : ℕ) → 0 < S → cond (eqb (i / S) s) v x ≡ within (s * S) S i v x
+run-test S s i v x pos =
+    by-run (s * S) S i
+    (λ h. let low = div-lt-iff-lt-mul pos .1 h in rw (within-before, ne-eqb (i / S) s (λ e. omega (arith, low))))
+    (λ h l. rw (within-in, eq-eqb (i / S) s (ap (λ (k : ℕ). k / S) (omega arith) ∙ digits-div s {m = S} {r = i - s * S} (omega arith))))
+    (λ h. let past = le-div-iff-mul-le {k = S} {x = suc s} {y = i} pos .1 (omega (arith, suc-mul s S)) in
+    rw (within-after, ne-eqb (i / S) s (λ e. omega (arith, past))))
 
 -- the bytes of a stripe
 abbrev pub stripeBytes : Geometry → ℕ
 stripeBytes g = g .r * (block g * drives g)
 
-module _ (g : Geometry) (ok : Allowed g) (load t : ℕ) (area mem : List ℕ) (long : length mem ≡ memorySize g * g .r) where
-  -- where tier t lies in memory, and the load in the area
-  abbrev start : ℕ
-  start = t * stripeBytes g
-
-  abbrev loadStart : ℕ
-  loadStart = load * memorySize g * g .r
-
+module _ (g : Geometry) (ok : Allowed g) where
   bytes-pos : 0 < stripeBytes g
   bytes-pos = mul-pos (ok .r-low) (stripe-pos g ok)
 
-  -- byte i of memory
-  module _ (i : ℕ) (b : i < length mem) where
-    abbrev tier : ℕ
-    tier = tierAt g (i / g .r)
+  -- where a load lies in the area
+  abbrev loadStart : ℕ → ℕ
+  loadStart load = load * memorySize g * g .r
 
-    at-byte : (load * memorySize g + i / g .r) * g .r + i % g .r ≡ loadStart + i
-    at-byte = omega (arith, add-mul (load * memorySize g) (i / g .r) (g .r), div-add-mod' i (g .r))
+  -- the stripe of address x, from its load and its tier
+  stripe-split : (x : ℕ) → stripeAt g x ≡ loadAt g x * tiers g + tierAt g x
+  unfolding loadAt tierAt
+  stripe-split x =
+      ap (λ (k : ℕ). x / k) (sym (pow-add 2 (g .b) (g .d))) ∙ bits-from (g .b + g .d) (g .m) (ok .drives-fit) x
+      ∙ ap₂ (λ (k i : ℕ). x / memorySize g * k + x % memorySize g / i) (sym (tiers-pow g ok)) (pow-add 2 (g .b) (g .d))
 
-    tier-byte : tier ≡ i / stripeBytes g
-    unfolding tierAt
-    tier-byte =
-        ap (λ (k : ℕ). k / (block g * drives g)) (mod-eq-of-lt (div-lt-iff-lt-mul (ok .r-low) .1 (subst (λ (n : ℕ). i < n) long b)))
-        ∙ div-div-eq-div-mul i (g .r) (block g * drives g)
+  module _ (t : ℕ) where
+    -- where tier t lies in memory, and in its load
+    abbrev start : ℕ
+    start = t * stripeBytes g
 
-    in-run : start ≤ i → i < start + stripeBytes g → i / stripeBytes g ≡ t
-    in-run h l = ap (λ (k : ℕ). k / stripeBytes g) (omega arith) ∙ digits-div t {m = stripeBytes g} {r = i - start} (omega arith)
+    module _ (mem : List ℕ) (long : length mem ≡ memorySize g * g .r) where
+      -- byte i of memory is of tier t where it lies in the run
+      tier-byte : (i : ℕ) → i < length mem → (v x : ℕ) → cond (readTakes g t (i / g .r)) v x ≡ within start (stripeBytes g) i v x
+      unfolding readTakes tierAt
+      tier-byte i b v x =
+          ap (λ (k : ℕ). cond (eqb k t) v x)
+          (ap (stripeAt g) (mod-eq-of-lt (div-lt-iff-lt-mul (ok .r-low) .1 (subst (λ (n : ℕ). i < n) long b)))
+          ∙ div-div-eq-div-mul i (g .r) (block g * drives g))
+          ∙ run-test (stripeBytes g) t i v x bytes-pos
 
-    read-at : (x : ℕ) → cond (eqb tier t) (getD area ((load * memorySize g + i / g .r) * g .r + i % g .r) 0) x
-        ≡ within start (stripeBytes g) i (getD area (loadStart + start + (i - start)) 0) x
-    read-at x =
-        by-run start (stripeBytes g) i
-        (λ h. let low = div-lt-iff-lt-mul bytes-pos .1 h in rw (within-before, ne-eqb tier t (λ e. omega (arith, low, tier-byte))))
-        (λ h l. rw (within-in, eq-eqb tier t (tier-byte ∙ in-run h l)) (ap (λ (k : ℕ). getD area k 0) (at-byte ∙ omega arith)))
-        (λ h. let past = le-div-iff-mul-le {k = stripeBytes g} {x = suc t} {y = i} bytes-pos .1 (omega (arith, suc-mul t (stripeBytes g))) in
-        rw (within-after, ne-eqb tier t (λ e. omega (arith, past, tier-byte))))
+      -- a read, as code that copies the bytes of a stripe makes it
+      pub read-laid : (load : ℕ) (area : List ℕ)
+          → copied (readTakes g t) (readFrom g load) (g .r) area mem ≡ laid mem start (stripeBytes g) area (loadStart load + start)
+      unfolding copied laid readFrom
+      read-laid load area =
+          each-ext (λ i x. cond (readTakes g t (i / g .r)) (getD area (readFrom g load (i / g .r) * g .r + i % g .r) 0) x)
+          (λ i x. within start (stripeBytes g) i (getD area (loadStart load + start + (i - start)) 0) x) mem
+          (λ i b. tier-byte i b (getD area ((load * memorySize g + i / g .r) * g .r + i % g .r) 0) (getD mem i 0)
+          ∙ within-ap start (stripeBytes g) (stripeBytes g) i _ _ (getD mem i 0) refl
+          (λ h l. ap (λ (k : ℕ). getD area k 0) (omega (arith, add-mul (load * memorySize g) (i / g .r) (g .r), div-add-mod' i (g .r)))))
 
-  -- a read, as code that copies the bytes of a stripe makes it
-  pub read-laid : copied (readTakes g t) (readFrom g load) (g .r) area mem ≡ laid mem start (stripeBytes g) area (loadStart + start)
-  unfolding copied laid readTakes readFrom
-  read-laid =
-      each-ext (λ i x. cond (readTakes g t (i / g .r)) (getD area (readFrom g load (i / g .r) * g .r + i % g .r) 0) x)
-      (λ i x. within start (stripeBytes g) i (getD area (loadStart + start + (i - start)) 0) x) mem (λ i b. read-at i b (getD mem i 0))
+      -- a blank's part of memory, as code that clears the bytes of a stripe makes it
+      pub blank-memory : zeroed (readTakes g t) (g .r) mem ≡ cleared mem start (stripeBytes g)
+      unfolding zeroed cleared
+      blank-memory =
+          each-ext (λ i x. cond (readTakes g t (i / g .r)) 0 x) (λ i x. within start (stripeBytes g) i 0 x) mem (λ i b. tier-byte i b 0 (getD mem i 0))
+
+    module _ (load : ℕ) (ht : t < tiers g) where
+      -- the stripe that a blank zeroes begins at the same byte, counted in stripes
+      in-stripes : (load * tiers g + t) * stripeBytes g ≡ loadStart load + start
+      in-stripes =
+          add-mul (load * tiers g) t (stripeBytes g)
+          ∙ ap (λ (k : ℕ). k + start)
+          (mul-assoc load (tiers g) (stripeBytes g)
+          ∙ ap (λ (k : ℕ). load * k) (mul-left-comm (tiers g) (g .r) (block g * drives g) ∙ mul-comm (g .r) (tiers g * (block g * drives g)))
+          ∙ sym (mul-assoc load (tiers g * (block g * drives g)) (g .r)) ∙ ap (λ (k : ℕ). load * k * g .r) (sym (memory-is g ok)))
+
+      -- byte i of the area is of that stripe where it lies in the run
+      stripe-byte : (i v x : ℕ) → cond (blankTakes g load t (i / g .r)) v x ≡ within (loadStart load + start) (stripeBytes g) i v x
+      unfolding blankTakes
+      stripe-byte i v x =
+          let y = i / g .r in
+          ap (λ (s : Bool). cond s v x)
+          (sym (both-test (loadAt g y) load (tierAt g y) t (loadAt g y * tiers g + tierAt g y) (load * tiers g + t)
+          (ap₂ (λ (l u : ℕ). l * tiers g + u)) (same-digits (loadAt g y) load (tier-lt g ok y) ht))
+          ∙ ap (λ (k : ℕ). eqb k (load * tiers g + t)) (sym (stripe-split y) ∙ div-div-eq-div-mul i (g .r) (block g * drives g)))
+          ∙ run-test (stripeBytes g) (load * tiers g + t) i v x bytes-pos
+          ∙ ap (λ (a : ℕ). within a (stripeBytes g) i v x) in-stripes
+
+      -- a blank's part of the area, as code that clears the bytes of a stripe makes it
+      pub blank-area : (area : List ℕ) → zeroed (blankTakes g load t) (g .r) area ≡ cleared area (loadStart load + start) (stripeBytes g)
+      unfolding zeroed cleared
+      blank-area area =
+          each-ext (λ i x. cond (blankTakes g load t (i / g .r)) 0 x) (λ i x. within (loadStart load + start) (stripeBytes g) i 0 x) area
+          (λ i b. stripe-byte i 0 (getD area i 0))
 
 -- ---- the columns of the inverse of a pass's low rows, in parts that are made once a pass
 

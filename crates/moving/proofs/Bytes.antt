@@ -1,14 +1,16 @@
 -- What are the bytes and records of a buffer after a move? Assumes nothing.
 use mathlib.Core.Path.{_∙_, _≡_, ap, refl, subst, sym}
-use mathlib.Core.Bool.{Bool, cond, false, true}
+use mathlib.Core.Logic.{⊎-elim}
+use mathlib.Core.Bool.{Bool, _||_, cond, false, true}
 use mathlib.Core.List.{List, [], _∷_}
-use Prim.Native.Nat.{_%_, _*_, _+_, _/_, _<_, suc, zero, ℕ}
+use Prim.Native.Nat.{_%_, _*_, _+_, _/_, _<_, _≤_, suc, zero, ℕ}
 use native.Mathlib.Nat.{le-of-suc-le-suc, not-suc-le-zero, zero-add}
 use native.Mathlib.Omega.{arith}
-use lib.ListN.{drop, getD, length, length-drop, length-take}
+use lib.ListN.{List·getD-eq-default, drop, getD, length, length-drop, length-take}
 use lib.Seq.{ext-getD, getD-drop, getD-take}
 use Rattle.algebra.proofs.Digits.{share}
-use Rattle.moving.specs.Bytes.{copied, each, eachFrom, recordOf}
+use Rattle.algebra.proofs.Search.{le-or-lt}
+use Rattle.moving.specs.Bytes.{copied, each, eachFrom, recordOf, zeroed}
 
 -- ---- each
 
@@ -89,6 +91,63 @@ module _ (chosen : ℕ → Bool) (from : ℕ → ℕ) (r : ℕ) (src dst : List 
       twice : (t : Bool) (w x : ℕ) → cond t w (cond t w x) ≡ cond t w x
       twice true w x = refl
       twice false w x = refl
+
+-- zero bytes are those of a buffer that holds none
+pub zeroed-copied : (chosen : ℕ → Bool) (from : ℕ → ℕ) (r : ℕ) (dst : List ℕ) → zeroed chosen r dst ≡ copied chosen from r [] dst
+unfolding zeroed copied
+zeroed-copied chosen from r dst = refl
+
+module _ (chosen : ℕ → Bool) (r : ℕ) (dst : List ℕ) where
+  pub length-zeroed : length (zeroed chosen r dst) ≡ length dst
+  unfolding zeroed
+  length-zeroed = length-each (λ i x. cond (chosen (i / r)) 0 x) dst
+
+  pub zeroed-again : zeroed chosen r (zeroed chosen r dst) ≡ zeroed chosen r dst
+  unfolding zeroed copied
+  zeroed-again = copied-again chosen (λ y. y) r [] dst
+
+  module _ (i : ℕ) (h : i < length dst) where
+    pub getD-zeroed : getD (zeroed chosen r dst) i 0 ≡ cond (chosen (i / r)) 0 (getD dst i 0)
+    unfolding zeroed
+    getD-zeroed = getD-each (λ i x. cond (chosen (i / r)) 0 x) dst i h
+
+    pub getD-zero : chosen (i / r) ≡ true → getD (zeroed chosen r dst) i 0 ≡ 0
+    getD-zero e = rw e at getD-zeroed
+
+    pub getD-stays : chosen (i / r) ≡ false → getD (zeroed chosen r dst) i 0 ≡ getD dst i 0
+    getD-stays e = rw e at getD-zeroed
+
+  -- what isn't chosen stays, past the end too
+  pub getD-spared : (i : ℕ) → chosen (i / r) ≡ false → getD (zeroed chosen r dst) i 0 ≡ getD dst i 0
+  getD-spared i e =
+      ⊎-elim
+      (λ (h : length dst ≤ i).
+      List·getD-eq-default (zeroed chosen r dst) 0 {n = i} (omega (arith, length-zeroed)) ∙ sym (List·getD-eq-default dst 0 {n = i} h))
+      (λ (h : i < length dst). getD-stays i h e)
+      (le-or-lt (length dst) i)
+
+module _ (r : ℕ) (dst : List ℕ) where
+  -- what is chosen counts, and not how
+  pub zeroed-ext : (c k : ℕ → Bool) → ((x : ℕ) → c x ≡ k x) → zeroed c r dst ≡ zeroed k r dst
+  zeroed-ext c k e = zeroed-copied c (λ y. y) r dst ∙ copied-ext (λ y. y) r [] dst c k e ∙ sym (zeroed-copied k (λ y. y) r dst)
+
+  -- where none is chosen, all stays
+  pub zeroed-none : (c : ℕ → Bool) → ((x : ℕ) → c x ≡ false) → dst ≡ zeroed c r dst
+  zeroed-none c e = copied-none (λ y. y) r [] dst c e ∙ sym (zeroed-copied c (λ y. y) r dst)
+
+  -- some records zeroed, and then more
+  pub zeroed-more : (more c all : ℕ → Bool) → ((x : ℕ) → more x || c x ≡ all x) → zeroed more r (zeroed c r dst) ≡ zeroed all r dst
+  unfolding zeroed
+  zeroed-more more c all e =
+      each-each (byte c) (byte more) (byte all) dst
+      (λ i b. by (more (i / r)) (c (i / r)) (getD dst i 0) ∙ ap (λ (t : Bool). cond t 0 (getD dst i 0)) (e (i / r)))
+    where
+      byte : (ℕ → Bool) → ℕ → ℕ → ℕ
+      byte c i x = cond (c (i / r)) 0 x
+
+      by : (s t : Bool) (x : ℕ) → cond s 0 (cond t 0 x) ≡ cond (s || t) 0 x
+      by true t x = refl
+      by false t x = refl
 
 -- two buffers have the same record where they have its bytes
 pub same-record : (r : ℕ) (l k : List ℕ) (N y x : ℕ) → length l ≡ N * r → length k ≡ N * r → y < N → x < N

@@ -1,30 +1,27 @@
 -- Why does a step move one block on a drive? Assumes nothing.
 use mathlib.Core.Path.{_∙_, _≡_, ap, ap₂, refl, subst, sym}
-use mathlib.Core.Bool.{Bool, _&&_, false, false≢true, true}
 use Prim.Native.Nat.{_%_, _*_, _+_, _-_, _/_, _<_, _^_, ℕ}
 use native.Mathlib.Nat.{add-assoc, add-mul, div-add-mod', div-div-eq-div-mul, div-lt-iff-lt-mul, mod-eq-of-lt, mod-lt, mul-assoc, mul-div-cancel}
 use native.Mathlib.Nat.{mul-lt-mul-of-pos-right, mul-right-comm}
 use native.Mathlib.Omega.{arith}
-use borrow.Author.Tests.{eq-eqb, eqb-true, ne-eqb}
-use lib.Arith.{digits-div, digits-lt, digits-mod}
+use lib.Arith.{digits-lt, digits-mod}
 use lib.Bits.{bitXor, xor-shifted}
 use lib.Dec.{eqb}
 use lib.Pow.{high, low, mod-mod-pow, pow-add, pow-pos}
 use lib.ListN.{length, take}
 use Rattle.algebra.proofs.Digits.{bits-below, bits-from, bits-mid, pow-split}
-use Rattle.algebra.proofs.Search.{and-l, and-r}
 use Rattle.algebra.specs.Matrix.{columns, inverse}
 use Rattle.algebra.specs.Vector.{comb}
 use Rattle.bank.specs.Geometry.{block, blockAt, driveAt, drives, loadAt, loads, memorySize, records, tierAt, tiers}
 use Rattle.bank.specs.declared.Geometry.{Geometry}
 use Rattle.moving.proofs.All.{target-in}
 use Rattle.moving.proofs.Low.{block-low, land-block, landed-from, lands, place-block, place-of, whole-block}
-use Rattle.moving.proofs.Numbers.{load-of-lt, memory-is, pass-of-lt, tier-of-lt, tiers-pow}
-use Rattle.moving.specs.Blocks.{blockStart, landing, placeIn, stepBlock, targetBlock}
+use Rattle.moving.proofs.Numbers.{both-test, load-of-lt, memory-is, pass-of-lt, same-digits, tier-lt, tier-of-lt, tiers-pow}
+use Rattle.moving.specs.Blocks.{blockStart, landing, loadBlock, placeIn, stepBlock, targetBlock}
 use Rattle.moving.specs.Number.{loadOf, passOf, phaseOf, tierOf}
-use Rattle.moving.specs.Step.{byPhase, sourceOf, writeFrom, writeTakes}
+use Rattle.moving.specs.Step.{blankTakes, byPhase, sourceOf, writeFrom, writeTakes}
 use Rattle.planning.specs.declared.Phase.{Phase}
-use Rattle.planning.specs.declared.Phase.the-variants.{Reads, Writes}
+use Rattle.planning.specs.declared.Phase.the-variants.{Reads, Writes, Blanks}
 use Rattle.planning.specs.Pass.{Pass, Route, passAt, total}
 use Rattle.planning.specs.Inner.{PassRuns, Runs}
 use Rattle.bank.proofs.Limits.{Allowed}
@@ -58,11 +55,7 @@ module _ (g : Geometry) (ok : Allowed g) where
   first-block t q = mul-div-cancel (t * drives g + q) (pow-pos (g .b))
 
   same-tier : (y t q : ℕ) → q < drives g → y % memorySize g / block g ≡ t * drives g + q → (tierAt g y ≡ t) × (driveAt g y ≡ q)
-  same-tier y t q hq e =
-      let k : tierAt g y * drives g + driveAt g y ≡ t * drives g + q = sym (low-split y) ∙ e in (
-        sym (digits-div (tierAt g y) (drive-lt y)) ∙ ap (λ (i : ℕ). i / drives g) k ∙ digits-div t hq,
-        sym (digits-mod (tierAt g y) (drive-lt y)) ∙ ap (λ (i : ℕ). i % drives g) k ∙ digits-mod t hq,
-      )
+  same-tier y t q hq e = same-digits (tierAt g y) t (drive-lt y) hq (sym (low-split y) ∙ e)
 
   -- an address's block, from its load, its tier and its drive: so a read's block on drive q is block load·M/B + t·D + q
   read-block : (x : ℕ) → blockAt g x ≡ loadAt g x * 2 ^ (g .m - g .b) + (tierAt g x * drives g + driveAt g x)
@@ -74,20 +67,36 @@ module _ (g : Geometry) (ok : Allowed g) where
   blocks-of =
       ap (λ (k : ℕ). k * drives g) (tiers-pow g ok) ∙ sym (pow-add 2 (g .m - (g .b + g .d)) (g .d)) ∙ ap (λ (k : ℕ). 2 ^ k) (omega arith)
 
+  -- a block of a load, counted there
+  in-load : (t q : ℕ) → t < tiers g → q < drives g → t * drives g + q < 2 ^ (g .m - g .b)
+  in-load t q ht hq = subst (λ (k : ℕ). t * drives g + q < k) blocks-of (digits-lt ht hq)
+
   module _ (l t q : ℕ) (hl : l < loads g) (ht : t < tiers g) (hq : q < drives g) where
     abbrev readBlock : ℕ
-    readBlock = l * 2 ^ (g .m - g .b) + (t * drives g + q)
+    readBlock = loadBlock g l t q
 
     read-block-in : (readBlock < 2 ^ (g .n - g .b)) × (readBlock % drives g ≡ q)
     read-block-in = (
       subst (λ (k : ℕ). readBlock < k) (sym (pow-add 2 (g .n - g .m) (g .m - g .b)) ∙ ap (λ (k : ℕ). 2 ^ k) (omega arith))
-          (digits-lt hl (subst (λ (k : ℕ). t * drives g + q < k) blocks-of (digits-lt ht hq))),
+          (digits-lt hl (in-load t q ht hq)),
       ap (λ (k : ℕ). k % drives g)
           (ap (λ (k : ℕ). l * k + (t * drives g + q)) (sym blocks-of) ∙ sym (add-assoc (l * (tiers g * drives g)) (t * drives g) q)
           ∙ ap (λ (k : ℕ). k + q)
           (ap (λ (k : ℕ). k + t * drives g) (sym (mul-assoc l (tiers g) (drives g))) ∙ sym (add-mul (l * tiers g) t (drives g))))
           ∙ digits-mod (l * tiers g + t) hq,
     )
+
+  -- ---- a blank: record x is of the load and of the tier exactly where its block is the one that a read takes on its drive
+
+  blank-test : (l t x : ℕ) → t < tiers g → eqb (blockAt g x) (loadBlock g l t (driveAt g x)) ≡ blankTakes g l t x
+  unfolding blankTakes
+  blank-test l t x ht =
+      let q = driveAt g x in
+      both-test (loadAt g x) l (tierAt g x) t (blockAt g x) (loadBlock g l t q)
+      (λ el et. read-block x ∙ ap₂ (λ (i k : ℕ). loadBlock g i k q) el et)
+      (λ e. let its = in-load (tierAt g x) q (tier-lt g ok x) (drive-lt x) in
+      let w = same-digits (loadAt g x) l its (in-load t q ht (drive-lt x)) (sym (read-block x) ∙ e) in
+      (w .0, same-digits (tierAt g x) t (drive-lt x) (drive-lt x) (w .1) .0))
 
   -- ---- a write
 
@@ -128,25 +137,12 @@ module _ (g : Geometry) (ok : Allowed g) where
 
     -- the same as tests, for code that writes block by block
     module _ (y : ℕ) (hy : y < records g) where
-      abbrev fromLoad : Bool
-      fromLoad = eqb (loadAt g (sourceOf g pass y)) load
-
-      abbrev toTier : Bool
-      toTier = eqb (tierAt g y) t
-
       pub block-test : eqb (blockAt g y) (targetBlock g pass load t (driveAt g y)) ≡ writeTakes g pass load t y
       unfolding writeTakes
-      block-test = go (fromLoad && toTier) refl
-        where
-          go : (s : Bool) → fromLoad && toTier ≡ s → eqb (blockAt g y) (targetBlock g pass load t (driveAt g y)) ≡ s
-          go true e =
-              eq-eqb (blockAt g y) (targetBlock g pass load t (driveAt g y))
-              (written→block y (driveAt g y) hy (drive-lt y)
-              (eqb-true (loadAt g (sourceOf g pass y)) load (and-l fromLoad toTier e)) (eqb-true (tierAt g y) t (and-r fromLoad toTier e)) refl)
-          go false e =
-              ne-eqb (blockAt g y) (targetBlock g pass load t (driveAt g y))
-              (λ q. let w = block→written y (driveAt g y) (drive-lt y) q in
-              false≢true (sym e ∙ ap₂ _&&_ (eq-eqb (loadAt g (sourceOf g pass y)) load (w .0)) (eq-eqb (tierAt g y) t (w .1))))
+      block-test =
+          both-test (loadAt g (sourceOf g pass y)) load (tierAt g y) t (blockAt g y) (targetBlock g pass load t (driveAt g y))
+          (λ el et. written→block y (driveAt g y) hy (drive-lt y) el et refl)
+          (λ e. let w = block→written y (driveAt g y) (drive-lt y) e in (w .0, w .1))
 
       -- and where record k of the block comes from, by the place of its first record and the first b columns of the inverse of the low rows
       pub block-place : loadAt g (sourceOf g pass y) ≡ load → tierAt g y ≡ t
@@ -178,7 +174,8 @@ module _ (route : Route) (s : ℕ) where
   -- the step's block on drive q, by its phase
   abbrev blockBy : Phase → ℕ → ℕ
   blockBy f q =
-      byPhase f (loadOf route s * 2 ^ (geo .m - geo .b) + (tierOf route s * drives geo + q)) (targetBlock geo its-pass (loadOf route s) (tierOf route s) q)
+      let its = loadBlock geo (loadOf route s) (tierOf route s) q in
+      byPhase f its (targetBlock geo its-pass (loadOf route s) (tierOf route s) q) its
 
   -- ONE BLOCK ON A DRIVE. What a read takes for place q of its tier lies in the step's block on its drive
   pub step-read : Allowed geo → phaseOf route s ≡ Reads → (q : ℕ) → q < memorySize geo → tierAt geo q ≡ tierOf route s
@@ -192,6 +189,14 @@ module _ (route : Route) (s : ℕ) where
     where
       x : ℕ
       x = loadOf route s * memorySize geo + q
+
+  -- a blank zeroes record x exactly when x lies in the step's block on x's drive
+  pub step-blank : Allowed geo → phaseOf route s ≡ Blanks → (x : ℕ)
+      → blankTakes geo (loadOf route s) (tierOf route s) x ≡ eqb (blockAt geo x) (stepBlock route s (driveAt geo x))
+  unfolding stepBlock
+  step-blank ok e x =
+      sym (blank-test geo ok (loadOf route s) (tierOf route s) x (tier-of-lt route ok s))
+      ∙ sym (ap (λ (f : Phase). eqb (blockAt geo x) (blockBy f (driveAt geo x))) e)
 
   module _ (runs : Runs route) (hs : s < total route) where
     pass-runs : PassRuns geo its-pass
@@ -220,3 +225,4 @@ module _ (route : Route) (s : ℕ) where
         go : (f : Phase) → (blockBy f q < 2 ^ (geo .n - geo .b)) × (blockBy f q % drives geo ≡ q)
         go Reads = read-block-in geo (runs-allowed route runs) (loadOf route s) (tierOf route s) q hl ht hq
         go Writes = target-block-in geo (runs-allowed route runs) its-pass pass-runs (loadOf route s) (tierOf route s) hl ht q hq
+        go Blanks = read-block-in geo (runs-allowed route runs) (loadOf route s) (tierOf route s) q hl ht hq

@@ -1,8 +1,8 @@
--- What do calls keep from a fresh state on, and what is there at the end? Assumes nothing.
+-- What do calls keep from a fresh state on, and what is there at the end and after each pass? Assumes nothing.
 use mathlib.Core.Path.{_∙_, _≡_, ap, ap₂, refl, subst, sym}
 use mathlib.Core.Bool.{Bool, cond, false, true}
 use mathlib.Core.List.{List}
-use Prim.Native.Nat.{_+_, _<_, _≤_, zero-le, ℕ}
+use Prim.Native.Nat.{_*_, _+_, _<_, _≤_, suc, zero-le, ℕ}
 use native.Mathlib.Nat.{add-zero}
 use native.Mathlib.Omega.{arith}
 use lib.Dec.{eqb}
@@ -10,20 +10,21 @@ use lib.ListN.{length}
 use Rattle.algebra.specs.Matrix.{target}
 use Rattle.bank.specs.Geometry.{records}
 use Rattle.moving.proofs.Again.{move-again}
-use Rattle.moving.proofs.All.{all-passes}
+use Rattle.moving.proofs.All.{all-passes, pass-spent}
 use Rattle.moving.proofs.Calls.{CallReady, by-run, by-stepped, refused-count, run-count}
 use Rattle.moving.proofs.Fits.{buffersFit→Fits, moves-from-fits, Fits}
-use Rattle.moving.specs.Bytes.{recordOf}
+use Rattle.moving.specs.Bytes.{AllZero, recordOf}
 use Rattle.moving.specs.Call.{Moment, begun, ran, runCount, stepNumber, stepped}
 use Rattle.moving.specs.Step.{Buffers, bytesOf, areaRead, buffersFit, move, movesFrom}
-use Rattle.planning.specs.Pass.{Route, performed, total}
+use Rattle.planning.specs.Pass.{Route, passSteps, performed, total}
 use Rattle.planning.specs.Stored.{routeOf}
 use Rattle.planning.specs.State.{furtherBy}
 use Rattle.planning.specs.declared.Plan.{Plan}
 use Rattle.planning.specs.declared.state.State.{State}
 use Rattle.planning.specs.Inner.{Runs}
 use Rattle.planning.proofs.Running.{runs-allowed}
-use Rattle.moving.proofs.Moves.{moves-next, moves-on}
+use Rattle.planning.proofs.Stored.{route-length}
+use Rattle.moving.proofs.Moves.{moves-next, moves-none, moves-on}
 
 -- the next step is at most the total, and the buffers are those of the steps below it, each done once
 pub record Kept (plan : Plan) (v : Buffers) (moment : Moment) : Type 0 where
@@ -105,3 +106,22 @@ module _ (plan : Plan) (can : Runs (routeOf plan)) (rows : List ℕ) (c : ℕ)
       ap₂ (λ (w : Buffers) (y : ℕ). recordOf (plan .geometry .r) (result w) y)
       (k .once ∙ ap (λ (i : ℕ). movesFrom (move (routeOf plan)) 0 i v) ends) (sym (does x hx))
       ∙ all-passes (routeOf plan) v (runs-allowed (routeOf plan) can) (can .each-runs) (buffersFit→Fits (plan .geometry) v fitting) x hx
+
+-- ---- on the way
+
+module _ (plan : Plan) (can : Runs (routeOf plan)) (v : Buffers) (fitting : buffersFit (plan .geometry) v ≡ true) where
+  -- the plan has blanks, the buffers fit, and the next step is the first after pass p: the area that the pass read and memory are zero
+  pub spent : (moment : Moment) → Kept plan v moment → plan .blanks ≡ true → (p : ℕ) → p < plan .count
+      → moment .state .next .0 ≡ suc p * passSteps (routeOf plan)
+      → AllZero (bytesOf (areaRead p) (moment .buffers)) × AllZero (moment .buffers .memory)
+  unfolding routeOf
+  spent moment k e p h ends =
+      subst (λ (w : Buffers). AllZero (bytesOf (areaRead p) w) × AllZero (w .memory))
+      (sym (k .once ∙ ap (λ (i : ℕ). movesFrom (move (routeOf plan)) 0 i v) ends))
+      (pass-spent (routeOf plan) v (runs-allowed (routeOf plan) can) (can .each-runs) (buffersFit→Fits (plan .geometry) v fitting) e p
+      (omega (arith, route-length plan)))
+
+-- a plan with no step leaves every byte
+pub still-bytes : (plan : Plan) (v : Buffers) (moment : Moment) → Kept plan v moment → total (routeOf plan) ≡ 0 → moment .buffers ≡ v
+still-bytes plan v moment k none =
+    k .once ∙ ap (λ (i : ℕ). movesFrom (move (routeOf plan)) 0 i v) (omega (arith, k .in-total)) ∙ sym (moves-none (move (routeOf plan)) 0 v)

@@ -9,18 +9,18 @@ use lib.Dec.{eqb}
 use lib.ListN.{getD, length}
 use Rattle.bank.specs.Geometry.{blockAt, driveAt, memorySize, records, tierAt}
 use Rattle.bank.specs.declared.Geometry.{Geometry}
-use Rattle.moving.proofs.Again.{area-memory, area-other, area-same, memory-area}
-use Rattle.moving.proofs.Bytes.{getD-copied}
-use Rattle.moving.proofs.Drives.{step-read, step-write}
+use Rattle.moving.proofs.Again.{area-memory, area-other, area-same, memory-area, other-area}
+use Rattle.moving.proofs.Bytes.{getD-copied, getD-zeroed}
+use Rattle.moving.proofs.Drives.{step-blank, step-read, step-write}
 use Rattle.moving.proofs.Fits.{area-long, Fits}
 use Rattle.moving.proofs.Pass.{move-at}
 use Rattle.moving.specs.Blocks.{stepBlock}
-use Rattle.moving.specs.Bytes.{copied}
+use Rattle.moving.specs.Bytes.{copied, zeroed}
 use Rattle.moving.specs.Number.{loadOf, passOf, phaseOf, tierOf}
-use Rattle.moving.specs.Step.{Area, Buffers, areaRead, areaWritten, bytesOf, move, readFrom, readMove, readTakes, withBytes, withMemory}
-use Rattle.moving.specs.Step.{writeFrom, writeMove, writeTakes}
+use Rattle.moving.specs.Step.{Area, Buffers, areaRead, areaWritten, blankMove, blankTakes, bytesOf, move, readFrom, readMove, readTakes}
+use Rattle.moving.specs.Step.{withBytes, withMemory, writeFrom, writeMove, writeTakes}
 use Rattle.planning.specs.Pass.{Pass, Route, passAt, total}
-use Rattle.planning.specs.declared.Phase.the-variants.{Reads, Writes}
+use Rattle.planning.specs.declared.Phase.the-variants.{Reads, Writes, Blanks}
 use Rattle.planning.specs.Inner.{Runs}
 use Rattle.bank.proofs.Limits.{Allowed}
 use Rattle.planning.proofs.Running.{runs-allowed}
@@ -85,6 +85,37 @@ module _ (route : Route) (k : ℕ) where
     written-area : bytesOf (areaWritten p) (move route k v) ≡ written (areaWritten p)
     written-area = ap (bytesOf (areaWritten p)) is-write ∙ area-same (areaWritten p) (written (areaWritten p)) v
 
+  -- ---- a blank
+
+  module _ (v : Buffers) (e : phaseOf route k ≡ Blanks) where
+    abbrev blanked : Area → List ℕ
+    blanked a = zeroed (blankTakes g (loadOf route k) (tierOf route k)) (g .r) (bytesOf a v)
+
+    abbrev emptied : List ℕ
+    emptied = zeroed (readTakes g (tierOf route k)) (g .r) (v .memory)
+
+    is-blank : move route k v ≡ withMemory emptied (withBytes (areaRead p) (blanked (areaRead p)) v)
+    unfolding blankMove
+    is-blank = move-at route k v Blanks p (loadOf route k) (tierOf route k) e refl refl refl
+
+    -- the area written stays
+    pub blank-written : bytesOf (areaWritten p) (move route k v) ≡ bytesOf (areaWritten p) v
+    blank-written =
+        ap (bytesOf (areaWritten p)) is-blank ∙ memory-area (areaWritten p) emptied (withBytes (areaRead p) (blanked (areaRead p)) v)
+        ∙ other-area (areaRead p) (blanked (areaRead p)) v
+
+    blanked-area : bytesOf (areaRead p) (move route k v) ≡ blanked (areaRead p)
+    blanked-area =
+        ap (bytesOf (areaRead p)) is-blank ∙ memory-area (areaRead p) emptied (withBytes (areaRead p) (blanked (areaRead p)) v)
+        ∙ area-same (areaRead p) (blanked (areaRead p)) v
+
+    -- a place of its tier becomes zero, and every other one stays
+    pub blank-place : (i : ℕ) → i < length (v .memory)
+        → getD (move route k v .memory) i 0 ≡ cond (eqb (tierAt g (i / g .r)) (tierOf route k)) 0 (getD (v .memory) i 0)
+    unfolding readTakes
+    blank-place i l =
+        ap (λ (w : Buffers). getD (w .memory) i 0) is-blank ∙ getD-zeroed (readTakes g (tierOf route k)) (g .r) (v .memory) i l
+
   -- ---- by the blocks of the step
 
   -- what a read takes for a place of its tier lies there
@@ -107,3 +138,12 @@ module _ (route : Route) (k : ℕ) where
     where
       in-area : i / g .r < records g
       in-area = div-lt-iff-lt-mul (runs-allowed route runs .r-low) .1 (subst (λ (n : ℕ). i < n) (area-long g v fitting (areaWritten p)) l)
+
+  -- a blank puts zeros there in the area read, and every other byte of that area stays
+  pub blank-byte : Allowed g → (v : Buffers) → phaseOf route k ≡ Blanks → (i : ℕ) → i < length (bytesOf (areaRead p) v)
+      → getD (bytesOf (areaRead p) (move route k v)) i 0
+      ≡ cond (eqb (blockAt g (i / g .r)) (stepBlock route k (driveAt g (i / g .r)))) 0 (getD (bytesOf (areaRead p) v) i 0)
+  blank-byte ok v e i l =
+      ap (λ (o : List ℕ). getD o i 0) (blanked-area v e)
+      ∙ getD-zeroed (blankTakes g (loadOf route k) (tierOf route k)) (g .r) (bytesOf (areaRead p) v) i l
+      ∙ ap (λ (t : Bool). cond t 0 (getD (bytesOf (areaRead p) v) i 0)) (step-blank route k ok e (i / g .r))

@@ -1,18 +1,42 @@
 -- How is a step number taken apart? Assumes nothing.
-use mathlib.Core.Path.{_∙_, _≡_, ap, subst, sym}
+use mathlib.Core.Path.{_∙_, _≡_, ap, ap₂, refl, subst, sym}
+use mathlib.Core.Bool.{Bool, _&&_, cond, false, false≢true, true}
 use Prim.Native.Nat.{_%_, _*_, _+_, _-_, _/_, _<_, _^_, ℕ}
-use native.Mathlib.Nat.{div-lt-iff-lt-mul, mod-lt, mul-add, mul-assoc, mul-comm, mul-div-cancel, mul-left-comm, mul-pos}
+use native.Mathlib.Nat.{div-lt-iff-lt-mul, mod-lt, mul-assoc, mul-comm, mul-div-cancel, mul-left-comm, mul-pos}
 use native.Mathlib.Omega.{arith}
+use borrow.Author.Tests.{eq-eqb, eqb-true, ne-eqb}
 use lib.Arith.{digits-div, digits-lt, digits-mod}
+use lib.Dec.{eqb}
 use lib.ListN.{getD, length}
 use lib.Pow.{pow-add, pow-pos}
 use Rattle.algebra.proofs.Digits.{pow-split}
+use Rattle.algebra.proofs.Search.{and-l, and-r}
 use Rattle.bank.specs.Geometry.{block, drives, loadAt, loads, memorySize, records, stripes, tierAt, tiers}
 use Rattle.bank.specs.declared.Geometry.{Geometry}
 use Rattle.moving.specs.Number.{loadOf, passOf, phaseOf, tierOf}
 use Rattle.planning.specs.declared.Phase.the-variants.{Writes}
 use Rattle.planning.specs.Pass.{Route, loadSteps, passSteps, phases}
+use Rattle.planning.proofs.Phases.{phases-are}
 use Rattle.bank.proofs.Limits.{Allowed}
+
+-- ---- digits, and tests of them
+
+-- two digits are equal where the numbers that they make are
+pub same-digits : (a c : ℕ) {n r s : ℕ} → r < n → s < n → a * n + r ≡ c * n + s → (a ≡ c) × (r ≡ s)
+same-digits a c {n} hr hs e = (
+  sym (digits-div a hr) ∙ ap (λ (i : ℕ). i / n) e ∙ digits-div c hs,
+  sym (digits-mod a hr) ∙ ap (λ (i : ℕ). i % n) e ∙ digits-mod c hs,
+)
+
+-- one test for two: e equals f exactly where a equals b and c equals d
+pub both-test : (a b c d e f : ℕ) → (a ≡ b → c ≡ d → e ≡ f) → (e ≡ f → (a ≡ b) × (c ≡ d)) → eqb e f ≡ eqb a b && eqb c d
+both-test a b c d e f to back = go (eqb a b && eqb c d) refl
+  where
+    go : (s : Bool) → eqb a b && eqb c d ≡ s → eqb e f ≡ s
+    go true h = eq-eqb e f (to (eqb-true a b (and-l (eqb a b) (eqb c d) h)) (eqb-true c d (and-r (eqb a b) (eqb c d) h)))
+    go false h = ne-eqb e f (λ q. let w = back q in false≢true (sym h ∙ ap₂ _&&_ (eq-eqb a b (w .0)) (eq-eqb c d (w .1))))
+
+-- ---- the sizes of a bank
 
 module _ (g : Geometry) (ok : Allowed g) where
   -- B·D, the records of a stripe
@@ -56,9 +80,18 @@ module _ (route : Route) (ok : Allowed (route .geometry)) where
   abbrev geo : Geometry
   geo = route .geometry
 
-  pub load-is : loadSteps route ≡ tiers geo + tiers geo
-  unfolding loadSteps phases
-  load-is = omega arith
+  -- the steps of a load: the reads, the writes, and what comes after them
+  pub load-is : loadSteps route ≡ tiers geo + tiers geo + cond (route .blanks) (tiers geo) 0
+  unfolding loadSteps
+  load-is = ap (λ (k : ℕ). k * tiers geo) (phases-are route) ∙ by (route .blanks)
+    where
+      by : (b : Bool) → cond b 3 2 * tiers geo ≡ tiers geo + tiers geo + cond b (tiers geo) 0
+      by true = omega arith
+      by false = omega arith
+
+  -- the steps of a load with blanks
+  pub load-three : route .blanks ≡ true → loadSteps route ≡ tiers geo + tiers geo + tiers geo
+  load-three e = load-is ∙ ap (λ (b : Bool). tiers geo + tiers geo + cond b (tiers geo) 0) e
 
   pub load-pos : 0 < loadSteps route
   load-pos = omega (arith, tiers-pos geo ok, load-is)
@@ -72,12 +105,13 @@ module _ (route : Route) (ok : Allowed (route .geometry)) where
       (ap (λ (k : ℕ). each * k) (records-tiers geo ok) ∙ sym (mul-assoc each (loads geo * tiers geo) (block geo * drives geo)))
       ∙ mul-div-cancel (each * (loads geo * tiers geo)) (stripe-pos geo ok) ∙ mul-left-comm each (loads geo) (tiers geo)
 
-  -- a read and a write for each of the N/(BD) stripes of an area
-  pub pass-twice : passSteps route ≡ stripes geo + stripes geo
-  pass-twice =
+  -- a step in each phase for each of the N/(BD) stripes of an area
+  pub pass-stripes : passSteps route ≡ cond (route .blanks) 3 2 * stripes geo
+  unfolding loadSteps
+  pass-stripes =
       let one : stripes geo ≡ loads geo * tiers geo
       = ap (λ (k : ℕ). k / (block geo * drives geo)) (records-tiers geo ok) ∙ mul-div-cancel (loads geo * tiers geo) (stripe-pos geo ok) in
-      pass-is ∙ ap (λ (k : ℕ). loads geo * k) load-is ∙ mul-add (loads geo) (tiers geo) (tiers geo) ∙ sym (ap (λ (k : ℕ). k + k) one)
+      pass-is ∙ mul-left-comm (loads geo) (length (phases route)) (tiers geo) ∙ ap₂ (λ (i k : ℕ). i * k) (phases-are route) (sym one)
 
   -- ---- any step number
 
@@ -95,6 +129,11 @@ module _ (route : Route) (ok : Allowed (route .geometry)) where
   pub pass-of-lt : (s k : ℕ) → s < passSteps route * k → passOf route s < k
   unfolding passOf
   pass-of-lt s k h = div-lt-iff-lt-mul pass-pos .1 (subst (λ (i : ℕ). s < i) (mul-comm (passSteps route) k) h)
+
+  -- no step is past the last phase
+  pub phase-of-lt : (s : ℕ) → s % passSteps route % loadSteps route / tiers geo < length (phases route)
+  unfolding loadSteps
+  phase-of-lt s = div-lt-iff-lt-mul (tiers-pos geo ok) .1 (mod-lt (s % passSteps route) load-pos)
 
   -- ---- step u of load l of pass p
 

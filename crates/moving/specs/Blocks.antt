@@ -25,9 +25,12 @@ blockStart g t q = (t * drives g + q) * block g
 unfoldable pub targetBlock : Geometry → Pass → ℕ → ℕ → ℕ → ℕ
 targetBlock g pass load t q = blockAt g (landing g pass load (blockStart g t q))
 
--- the block that step s moves on drive q: read, or written
+-- block t·D + q of a load
+abbrev pub loadBlock : Geometry → ℕ → ℕ → ℕ → ℕ
+loadBlock g load t q = load * 2 ^ (g .m - g .b) + (t * drives g + q)
+
+-- the block that step s moves on drive q: read, written, or blanked
 unfoldable pub stepBlock : Route → ℕ → ℕ → ℕ
 stepBlock route s q =
-    byPhase (phaseOf route s)
-    (loadOf route s * 2 ^ (route .geometry .m - route .geometry .b) + (tierOf route s * drives (route .geometry) + q))
-    (targetBlock (route .geometry) (passAt route (passOf route s)) (loadOf route s) (tierOf route s) q)
+    let its = loadBlock (route .geometry) (loadOf route s) (tierOf route s) q in
+    byPhase (phaseOf route s) its (targetBlock (route .geometry) (passAt route (passOf route s)) (loadOf route s) (tierOf route s) q) its

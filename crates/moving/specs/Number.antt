@@ -18,6 +18,6 @@ loadOf route s = s % passSteps route / loadSteps route
 unfoldable pub phaseOf : Route → ℕ → Phase
 phaseOf route s = getD (phases route) (s % passSteps route % loadSteps route / tiers (route .geometry)) Writes
 
--- which of the reads, or of the writes: t
+-- which of the reads, of the writes, or of the blanks: t
 unfoldable pub tierOf : Route → ℕ → ℕ
 tierOf route s = s % passSteps route % loadSteps route % tiers (route .geometry)

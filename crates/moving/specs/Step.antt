@@ -8,9 +8,9 @@ use Rattle.bank.specs.declared.Geometry.{Geometry}
 use Rattle.bank.specs.Geometry.{records, memorySize, loadAt, tierAt}
 use Rattle.algebra.specs.Matrix.{source}
 use Rattle.planning.specs.declared.Phase.{Phase}
-use Rattle.planning.specs.declared.Phase.the-variants.{Reads, Writes}
+use Rattle.planning.specs.declared.Phase.the-variants.{Reads, Writes, Blanks}
 use Rattle.planning.specs.Pass.{Pass, Route, passAt}
-use Rattle.moving.specs.Bytes.{copied}
+use Rattle.moving.specs.Bytes.{copied, zeroed}
 use Rattle.moving.specs.Number.{passOf, loadOf, phaseOf, tierOf}
 
 -- the lent bytes
@@ -99,11 +99,22 @@ unfoldable pub writeMove : Geometry → Pass → ℕ → ℕ → ℕ → Buffers
 writeMove g pass p load t v =
     withBytes (areaWritten p) (copied (writeTakes g pass load t) (writeFrom g pass) (g .r) (v .memory) (bytesOf (areaWritten p) v)) v
 
+-- blank t of a load zeroes record x of the area read: it lies in the load, and its tier is t
+unfoldable pub blankTakes : Geometry → ℕ → ℕ → ℕ → Bool
+blankTakes g load t x = eqb (loadAt g x) load && eqb (tierAt g x) t
+
+-- blank t of a load in pass p: stripe t of the load becomes zero in the area read, and so do the places of the same records in memory
+unfoldable pub blankMove : Geometry → ℕ → ℕ → ℕ → Buffers → Buffers
+blankMove g p load t v =
+    withMemory (zeroed (readTakes g t) (g .r) (v .memory))
+    (withBytes (areaRead p) (zeroed (blankTakes g load t) (g .r) (bytesOf (areaRead p) v)) v)
+
 module _ {A : Type 0} where
-  -- one thing for a read, and another for a write
-  abbrev pub byPhase : Phase → A → A → A
-  byPhase Reads reads writes = reads
-  byPhase Writes reads writes = writes
+  -- one thing for a read, another for a write, and a third for a blank
+  abbrev pub byPhase : Phase → A → A → A → A
+  byPhase Reads reads writes blanks = reads
+  byPhase Writes reads writes blanks = writes
+  byPhase Blanks reads writes blanks = blanks
 
 -- the move of step s
 unfoldable pub move : Route → ℕ → Buffers → Buffers
@@ -111,6 +122,7 @@ move route s v =
     byPhase (phaseOf route s)
     (readMove (route .geometry) (passOf route s) (loadOf route s) (tierOf route s) v)
     (writeMove (route .geometry) (passAt route (passOf route s)) (passOf route s) (loadOf route s) (tierOf route s) v)
+    (blankMove (route .geometry) (passOf route s) (loadOf route s) (tierOf route s) v)
 
 -- the k moves from number s on, each once, where f has the move of each number
 unfoldable pub movesFrom : (ℕ → Buffers → Buffers) → ℕ → ℕ → Buffers → Buffers

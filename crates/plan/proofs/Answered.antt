@@ -1,5 +1,6 @@
 -- What does a planning call answer, refused or not? Assumes nothing.
 use mathlib.Core.Path.{_∙_, _≡_, ap, ap₂, refl, sym}
+use mathlib.Core.Bool.{Bool}
 use Prim.Native.Nat.{suc, zero, ℕ}
 use Rattle.bank.specs.Checks.{handed}
 use Rattle.order.specs.Order.{judgement, matrixOf, verdict, zWith}
@@ -10,16 +11,16 @@ use Rattle.planning.specs.declared.Plan.{Plan}
 use Rattle.plan.specs.Answer.{plannedFor}
 use Rattle.plan.specs.declared.make.Planned.{Planned}
 
-module _ (order : Order) where
+module _ (order : Order) (blanks : Bool) where
   abbrev made : Plan
-  made = planFor (order .geometry) (matrixOf order) (order .complement)
+  made = planFor (order .geometry) (matrixOf order) (order .complement) blanks
 
   -- a verdict, and a plan with it
   abbrev with-plan : Verdict → Plan → Planned
   with-plan v plan = record { number = v .number; plan = plan; z = v .z }
 
   -- refused: the empty plan
-  pub planned-refused : (judgement order ≡ 0 → ⊥) → plannedFor order ≡ with-plan (verdict order) emptyPlan
+  pub planned-refused : (judgement order ≡ 0 → ⊥) → plannedFor order blanks ≡ with-plan (verdict order) emptyPlan
   unfolding plannedFor
   planned-refused h = ap (with-plan (verdict order)) (go (judgement order) h)
     where
@@ -28,7 +29,7 @@ module _ (order : Order) where
       go (suc k) h = refl
 
   -- taken: 0, and the plan
-  pub planned-taken : judgement order ≡ 0 → plannedFor order ≡ record { number = 0; plan = made; z = record { 0 = 0 } }
+  pub planned-taken : judgement order ≡ 0 → plannedFor order blanks ≡ record { number = 0; plan = made; z = record { 0 = 0 } }
   unfolding plannedFor zWith
   planned-taken e = rw e
 
@@ -37,10 +38,10 @@ module _ (order : Order) where
     number : v .number ≡ judgement order
     number = ap (λ (v : Verdict). v .number) is
 
-    pub answer-refused : (v .number ≡ 0 → ⊥) → plan ≡ emptyPlan → with-plan v plan ≡ plannedFor order
+    pub answer-refused : (v .number ≡ 0 → ⊥) → plan ≡ emptyPlan → with-plan v plan ≡ plannedFor order blanks
     answer-refused h e = ap₂ with-plan is e ∙ sym (planned-refused (λ z. h (number ∙ z)))
 
-    pub answer-taken : v .number ≡ 0 → plan ≡ made → with-plan v plan ≡ plannedFor order
+    pub answer-taken : v .number ≡ 0 → plan ≡ made → with-plan v plan ≡ plannedFor order blanks
     unfolding zWith
     answer-taken h e =
         ap₂ with-plan is e ∙ ap {B = Planned} (λ (k : ℕ). record { number = k; plan = made; z = record { 0 = zWith k order } }) (sym number ∙ h)

@@ -1,6 +1,6 @@
 -- What is proved of a planning call? The order is the one asked about; an array of rows has room for ROWS of them. Assumes nothing.
 use mathlib.Core.Path.{_∙_, _≡_, ap, refl, subst, sym}
-use mathlib.Core.Bool.{true}
+use mathlib.Core.Bool.{Bool, true}
 use Prim.Native.Nat.{_+_, _-_, _<_, ℕ}
 use lib.ListN.{length}
 use Rattle.bank.specs.Geometry.{records}
@@ -38,11 +38,11 @@ pub record Makes (order : Order) (plan : Plan) : Type 0 where
       (order .geometry .m - order .geometry .b) + 1
 
 -- the answer is 0 and such a plan
-module _ (order : Order) (room : length (order .rows) ≡ ROWS) (taken : judgement order ≡ 0) where
-  pub made-accepted : Makes order (plannedFor order .plan)
-  made-accepted = subst (λ (a : Planned). Makes order (a .plan)) (sym (planned-taken order taken)) makes
+module _ (order : Order) (room : length (order .rows) ≡ ROWS) (taken : judgement order ≡ 0) (blanks : Bool) where
+  pub made-accepted : Makes order (plannedFor order blanks .plan)
+  made-accepted = subst (λ (a : Planned). Makes order (a .plan)) (sym (planned-taken order blanks taken)) makes
     where
-      makes : Makes order (planFor (order .geometry) (matrixOf order) (order .complement))
+      makes : Makes order (planFor (order .geometry) (matrixOf order) (order .complement) blanks)
       makes =
           let k = judgement→accepted order taken in
           let g = order .geometry in
@@ -52,8 +52,8 @@ module _ (order : Order) (room : length (order .rows) ≡ ROWS) (taken : judgeme
           let below = complement-below order (k .form) in
           record {
             on-its-bank = unfold planFor planOf in refl;
-            sound-plan = made-sound g A c (k .inside) long (k .regular) below;
-            performs = λ x h. rw (made-route g A c (k .inside) long (k .regular) below) (made-performs g A c (k .inside) long (k .regular) x h);
+            sound-plan = made-sound g A c (k .inside) long (k .regular) below blanks;
+            performs = λ x h. rw (made-route g A c (k .inside) long (k .regular) below blanks) (made-performs g A c (k .inside) long (k .regular) x h);
             no-pass = λ s. unfold planFor planOf in ap length (still-passes g A c long s);
             passes = λ f. unfold planFor planOf in ap length (other-passes g A c long f) ∙ made-length g A c (k .inside) long (k .regular);
           }

@@ -64,19 +64,19 @@ abbrev pub ahead : ℕ → ℕ → ℕ → ℕ → List ℕ → List ℕ → ℕ
 ahead k n b m cols q c = complemented (map (columns n) (firstAfter (rounds k n b m cols) q)) c
 
 -- p passes of all are stored, and the others are those of cols and Q
-pub record Making (g : Geometry) (n b m c : ℕ) (all : List Pass) (plan : Plan) (cols q : List ℕ) (p : ℕ) : Type 0 where
+pub record Making (g : Geometry) (blanks : Bool) (n b m c : ℕ) (all : List Pass) (plan : Plan) (cols q : List ℕ) (p : ℕ) : Type 0 where
   pub below : b < m
   pub memory-below : m < n
   pub wide : n ≤ ROWS
   pub few : length all ≤ PASSES
   pub done : List Pass
   pub counted : length done ≡ p
-  pub stored : plan ≡ planOf (record { geometry = g; passes = done })
+  pub stored : plan ≡ planOf (record { geometry = g; blanks = blanks; passes = done })
   pub comes : done ++ ahead (m - p) n b m cols q c ≡ all
   pub ready : RoundReady n m cols
   pub enough : nonzero m cols ≤ m - p
 
-module _ {g : Geometry} {n b m c : ℕ} {all : List Pass} {plan : Plan} {cols q : List ℕ} {p : ℕ} (k : Making g n b m c all plan cols q p) where
+module _ {g : Geometry} {blanks : Bool} {n b m c : ℕ} {all : List Pass} {plan : Plan} {cols q : List ℕ} {p : ℕ} (k : Making g blanks n b m c all plan cols q p) where
   low : b ≤ m
   low = omega (arith, k .below)
 
@@ -102,11 +102,11 @@ module _ {g : Geometry} {n b m c : ℕ} {all : List Pass} {plan : Plan} {cols q 
       )
 
   put : (f rows : List ℕ) (e : ℕ) (plan' : Plan) → length f ≡ n → rows ≡ f ++ replicate (ROWS - n) 0 → plan' ≡ withPass plan p rows e
-      → plan' ≡ planOf (record { geometry = g; passes = k .done ++ (record { rows = f; complement = e } ∷ []) })
+      → plan' ≡ planOf (record { geometry = g; blanks = blanks; passes = k .done ++ (record { rows = f; complement = e } ∷ []) })
   put f rows e plan' l h is =
       is ∙ ap (λ (x : Plan). withPass x p rows e) (k .stored)
-      ∙ ap₂ (λ (i : ℕ) (r : List ℕ). withPass (planOf (record { geometry = g; passes = k .done })) i r e) (sym (k .counted)) h
-      ∙ sym (stored-more g (k .done) f e n (omega (arith, make-room, k .counted)) (k .wide) l)
+      ∙ ap₂ (λ (i : ℕ) (r : List ℕ). withPass (planOf (record { geometry = g; blanks = blanks; passes = k .done })) i r e) (sym (k .counted)) h
+      ∙ sym (stored-more g blanks (k .done) f e n (omega (arith, make-room, k .counted)) (k .wide) l)
 
   module _ (more : busy m cols ≡ true) where
     -- an iteration is left
@@ -145,7 +145,7 @@ module _ {g : Geometry} {n b m c : ℕ} {all : List Pass} {plan : Plan} {cols q 
         → unit ≡ identity n ++ replicate (ROWS - n) 0
         → rows ≡ columns n (after (take n pass) q) ++ replicate (ROWS - n) 0
         → plan' ≡ withPass plan p rows 0
-        → Making g n b m c all plan' (take n left) (take n unit) (p + 1)
+        → Making g blanks n b m c all plan' (take n left) (take n unit) (p + 1)
     make-once pass left unit rows plan' e1 e2 e3 e4 e5 =
         let x : Pass = record { rows = columns n (after made q); complement = 0 } in
         let pass-is : take n pass ≡ made = take-front n pass made (replicate (ROWS - n) 0) made-length e1 in
@@ -168,15 +168,15 @@ module _ {g : Geometry} {n b m c : ℕ} {all : List Pass} {plan : Plan} {cols q 
 
   module _ (none : busy m cols ≡ false) where
     pub make-end : (rows : List ℕ) (plan' : Plan) → rows ≡ columns n (after cols q) ++ replicate (ROWS - n) 0 → plan' ≡ withPass plan p rows c
-        → plan' ≡ planOf (record { geometry = g; passes = all })
+        → plan' ≡ planOf (record { geometry = g; blanks = blanks; passes = all })
     unfolding firstAfter complemented
     make-end rows plan' e is =
         put (columns n (after cols q)) rows c plan' (columns-length n (after cols q)) e is
-        ∙ ap (λ (l : List Pass). planOf (record { geometry = g; passes = l }))
+        ∙ ap (λ (l : List Pass). planOf (record { geometry = g; blanks = blanks; passes = l }))
         (ap (λ (l : List (List ℕ)). k .done ++ complemented (map (columns n) (firstAfter l q)) c) (sym (rounds-stop (m - p) n b m cols none)) ∙ k .comes)
 
 -- ---- the order A, c, in the arrays that hold A P and P
-module _ (g : Geometry) (array : List ℕ) (c : ℕ) (inside : inLimits g ≡ true) (long : length array ≡ ROWS)
+module _ (g : Geometry) (array : List ℕ) (c : ℕ) (blanks : Bool) (inside : inLimits g ≡ true) (long : length array ≡ ROWS)
     (regular : singular (g .n) (take (g .n) array) ≡ false) (cols q : List ℕ)
     (cols-is : cols ≡ after (columns (g .n) (take (g .n) array)) (operations (g .n) (g .m) (columns (g .n) (take (g .n) array))) ++ replicate (ROWS - g .n) 0)
     (q-is : q ≡ operations (g .n) (g .m) (columns (g .n) (take (g .n) array)) ++ replicate (ROWS - g .n) 0) where
@@ -217,7 +217,7 @@ module _ (g : Geometry) (array : List ℕ) (c : ℕ) (inside : inLimits g ≡ tr
       ap (λ (l : List ℕ). ahead (g .m) (g .n) (g .b) (g .m) moved l c) (operations-inverse (g .n) (g .m) hm (columns (g .n) rows))
       ∙ sym (ap₂ (λ (l p : List ℕ). ahead (g .m) (g .n) (g .b) (g .m) l p c) cols-front q-front)
 
-  start : Making g (g .n) (g .b) (g .m) c all (planOf (record { geometry = g; passes = [] })) (take (g .n) cols) (take (g .n) q) 0
+  start : Making g blanks (g .n) (g .b) (g .m) c all (planOf (record { geometry = g; blanks = blanks; passes = [] })) (take (g .n) cols) (take (g .n) q) 0
   start = record {
     below = k .block-below;
     memory-below = k .memory-below;
@@ -234,23 +234,23 @@ module _ (g : Geometry) (array : List ℕ) (c : ℕ) (inside : inLimits g ≡ tr
   }
 
   -- the plan that the passes go into
-  module _ (plan : Plan) (e : plan ≡ planOf (record { geometry = g; passes = [] })) where
-    pub make-start : Making (plan .geometry) (g .n) (g .b) (g .m) c all plan (take (g .n) cols) (take (g .n) q) 0
+  module _ (plan : Plan) (e : plan ≡ planOf (record { geometry = g; blanks = blanks; passes = [] })) where
+    pub make-start : Making (plan .geometry) (plan .blanks) (g .n) (g .b) (g .m) c all plan (take (g .n) cols) (take (g .n) q) 0
     unfolding planOf
-    make-start = subst (λ (x : Plan). Making (x .geometry) (g .n) (g .b) (g .m) c all x (take (g .n) cols) (take (g .n) q) 0) (sym e) start
+    make-start = subst (λ (x : Plan). Making (x .geometry) (x .blanks) (g .n) (g .b) (g .m) c all x (take (g .n) cols) (take (g .n) q) 0) (sym e) start
 
     -- and where all are stored, the plan is made
-    pub make-whole : planOf (record { geometry = plan .geometry; passes = all }) ≡ planOf (record { geometry = g; passes = passesMade g rows c })
+    pub make-whole : planOf (record { geometry = plan .geometry; blanks = plan .blanks; passes = all }) ≡ planOf (record { geometry = g; blanks = blanks; passes = passesMade g rows c })
     unfolding planOf
-    make-whole = ap₂ (λ (x : Plan) (l : List Pass). planOf (record { geometry = x .geometry; passes = l })) e (sym all-ahead)
+    make-whole = ap₂ (λ (x : Plan) (l : List Pass). planOf (record { geometry = x .geometry; blanks = x .blanks; passes = l })) e (sym all-ahead)
 
 -- ---- the order's plan, by the test for an order that moves no record
-module _ (g : Geometry) (rows : List ℕ) (c : ℕ) where
-  pub plan-none : isIdentity (g .n) rows && eqb c 0 ≡ true → planOf (record { geometry = g; passes = [] }) ≡ planFor g rows c
+module _ (g : Geometry) (rows : List ℕ) (c : ℕ) (blanks : Bool) where
+  pub plan-none : isIdentity (g .n) rows && eqb c 0 ≡ true → planOf (record { geometry = g; blanks = blanks; passes = [] }) ≡ planFor g rows c blanks
   unfolding planFor passesFor
   plan-none e = rw e refl
 
-  pub plan-some : isIdentity (g .n) rows && eqb c 0 ≡ false → planOf (record { geometry = g; passes = passesMade g rows c }) ≡ planFor g rows c
+  pub plan-some : isIdentity (g .n) rows && eqb c 0 ≡ false → planOf (record { geometry = g; blanks = blanks; passes = passesMade g rows c }) ≡ planFor g rows c blanks
   unfolding planFor passesFor
   plan-some e = rw e refl
 

@@ -1,5 +1,6 @@
 -- What is a stored route with one pass more? Assumes nothing.
 use mathlib.Core.Path.{_≡_, ap, subst, sym, _∙_}
+use mathlib.Core.Bool.{Bool}
 use mathlib.Core.List.{List, [], _∷_, _++_}
 use mathlib.Core.Logic.{⊎-elim}
 use Prim.Native.Nat.{ℕ, _+_, _-_, _*_, _/_, _%_, _≤_, _<_}
@@ -134,13 +135,13 @@ complements-none room =
     stored-complement room 1 [] p l ∙ sym (getD-replicate room p 0 0 l))
 
 -- a route with one pass more, as it is stored
-pub stored-more : (g : Geometry) (ps : List Pass) (f : List ℕ) (c n : ℕ) → length ps < PASSES → n ≤ ROWS → length f ≡ n
-    → planOf (record { geometry = g; passes = ps ++ (record { rows = f; complement = c } ∷ []) })
-    ≡ withPass (planOf (record { geometry = g; passes = ps })) (length ps) (f ++ replicate (ROWS - n) 0) c
+pub stored-more : (g : Geometry) (blanks : Bool) (ps : List Pass) (f : List ℕ) (c n : ℕ) → length ps < PASSES → n ≤ ROWS → length f ≡ n
+    → planOf (record { geometry = g; blanks = blanks; passes = ps ++ (record { rows = f; complement = c } ∷ []) })
+    ≡ withPass (planOf (record { geometry = g; blanks = blanks; passes = ps })) (length ps) (f ++ replicate (ROWS - n) 0) c
 unfolding planOf withPass
-stored-more g ps f c n fits narrow long =
+stored-more g blanks ps f c n fits narrow long =
     let complements = stored-complements-more ps f c PASSES ROWS (omega arith) fits (omega arith) in
-    λ i. record { geometry = g; count = length-more ps f c i; rows = rows i; complements = complements i }
+    λ i. record { geometry = g; blanks = blanks; count = length-more ps f c i; rows = rows i; complements = complements i }
   where
     rows : storedRows PASSES ROWS (more ps f c) ≡ paste (storedRows PASSES ROWS ps) (length ps * ROWS) (f ++ replicate (ROWS - n) 0) ROWS
     rows =
@@ -148,7 +149,7 @@ stored-more g ps f c n fits narrow long =
         ∙ ap (λ (k : ℕ). paste (storedRows PASSES ROWS ps) (length ps * ROWS) (f ++ replicate (ROWS - k) 0) ROWS) long
 
 -- and with none
-pub stored-none : (g : Geometry) → planOf (record { geometry = g; passes = [] })
-    ≡ record { geometry = g; count = 0; rows = replicate (PASSES * ROWS) 0; complements = replicate PASSES 0 }
+pub stored-none : (g : Geometry) (blanks : Bool) → planOf (record { geometry = g; blanks = blanks; passes = [] })
+    ≡ record { geometry = g; blanks = blanks; count = 0; rows = replicate (PASSES * ROWS) 0; complements = replicate PASSES 0 }
 unfolding planOf
-stored-none g = λ i. record { geometry = g; count = 0; rows = rows-none PASSES ROWS i; complements = complements-none PASSES i }
+stored-none g blanks = λ i. record { geometry = g; blanks = blanks; count = 0; rows = rows-none PASSES ROWS i; complements = complements-none PASSES i }

@@ -12,6 +12,7 @@ unfoldable pub withPass : Plan → ℕ → List ℕ → ℕ → Plan
 withPass plan p rows complement =
     record {
       geometry = plan .geometry;
+      blanks = plan .blanks;
       count = p + 1;
       rows = paste (plan .rows) (p * ROWS) rows ROWS;
       complements = set (plan .complements) p complement;

@@ -44,15 +44,15 @@ fn rows_after(a: &[u32; ROWS], q: &[u32; ROWS], n: usize) -> [u32; ROWS]
 }
 
 // The plan of the passes made of A and c: one for each round, the first after P⁻¹, which is P, and then what is left.
-fn plan_made(g: Geometry, rows: [u32; ROWS], c: u32) -> Plan
+fn plan_made(g: Geometry, rows: [u32; ROWS], c: u32, blanks: bool) -> Plan
     requires { ⌜ (inLimits g ≡ true) × (singular (g .n) (take (g .n) rows) ≡ false) ⌝ }
-    ensures { λ r. ⌜ r ≡ planOf (record { geometry = g; passes = passesMade g (take (g .n) rows) c }) ⌝ }
+    ensures { λ r. ⌜ r ≡ planOf (record { geometry = g; blanks = blanks; passes = passesMade g (take (g .n) rows) c }) ⌝ }
 {
     let n = g.n as usize;
     let b = g.b as usize;
     let m = g.m as usize;
     let o = operate(&rows, n, m);
-    let mut plan = no_passes(g);
+    let mut plan = no_passes(g, blanks);
     let mut cols = o.cols;
     let mut q = o.p;
     let mut p: usize = 0;
@@ -77,20 +77,20 @@ fn is_still(rows: &[u32; ROWS], n: usize, c: u32) -> bool
     is_identity(rows, n)
 }
 
-// The plan of an order A, c that was judged and is taken: no passes where no record need move.
-pub fn plan_for(g: Geometry, rows: [u32; ROWS], c: u32) -> Plan
+// The plan of an order A, c that was judged and is taken: no passes where no record need move. It keeps whether to blank.
+pub fn plan_for(g: Geometry, rows: [u32; ROWS], c: u32, blanks: bool) -> Plan
     requires { ⌜ (inLimits g ≡ true) × (singular (g .n) (take (g .n) rows) ≡ false) ⌝ }
-    ensures { λ r. ⌜ r ≡ planFor g (take (g .n) rows) c ⌝ }
+    ensures { λ r. ⌜ r ≡ planFor g (take (g .n) rows) c blanks ⌝ }
 {
     if is_still(&rows, g.n as usize, c) {
-        return no_passes(g);
+        return no_passes(g, blanks);
     }
-    plan_made(g, rows, c)
+    plan_made(g, rows, c, blanks)
 }
 
-// The plan for an order that is taken, and a number that says why where one isn't.
-pub fn make_plan(order: Order) -> Planned
-    ensures { λ r. ⌜ r ≡ plannedFor order ⌝ }
+// The plan for an order that is taken, which blanks the spent area or doesn't, and a number that says why where one isn't.
+pub fn make_plan(order: Order, blanks: bool) -> Planned
+    ensures { λ r. ⌜ r ≡ plannedFor order blanks ⌝ }
 {
     let judged = order::judge(order);
     let number = judged.number;
@@ -104,6 +104,6 @@ pub fn make_plan(order: Order) -> Planned
         };
     }
     let rows = order.rows;
-    let plan = plan_for(order.geometry, rows, order.complement);
+    let plan = plan_for(order.geometry, rows, order.complement, blanks);
     Planned { number, plan, z }
 }

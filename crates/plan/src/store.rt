@@ -12,7 +12,7 @@ use bank::PLACES;
 use bank::ROWS;
 use planning::Plan;
 
-// Zero everywhere.
+// Zero everywhere, and nothing to blank.
 pub fn empty_plan() -> Plan
     ensures { λ r. ⌜ r ≡ emptyPlan ⌝ }
 {
@@ -26,6 +26,7 @@ pub fn empty_plan() -> Plan
             m: 0,
             r: 0,
         },
+        blanks: false,
         count: 0,
         rows: rows,
         complements: complements,
@@ -33,11 +34,12 @@ pub fn empty_plan() -> Plan
 }
 
 // A plan with no passes.
-pub(crate) fn no_passes(g: Geometry) -> Plan
-    ensures { λ r. ⌜ r ≡ planOf (record { geometry = g; passes = [] }) ⌝ }
+pub(crate) fn no_passes(g: Geometry, blanks: bool) -> Plan
+    ensures { λ r. ⌜ r ≡ planOf (record { geometry = g; blanks = blanks; passes = [] }) ⌝ }
 {
     let mut plan = empty_plan();
     plan.geometry = g;
+    plan.blanks = blanks;
     plan
 }
 

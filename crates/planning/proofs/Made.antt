@@ -1,6 +1,6 @@
 -- What is true of the plan of an order that planning takes? Assumes nothing.
 use mathlib.Core.Path.{_∙_, _≡_, ap, refl, subst, sym}
-use mathlib.Core.Bool.{false, true}
+use mathlib.Core.Bool.{Bool, false, true}
 use mathlib.Core.List.{List, [], _∷_}
 use Prim.Native.Nat.{_+_, _-_, _<_, _^_, _≤_, suc, zero, ℕ}
 use native.Mathlib.Omega.{arith}
@@ -73,9 +73,9 @@ module _ (g : Geometry) (rows : List ℕ) (c : ℕ) (hg : inLimits g ≡ true) (
       by-passes g rows c hr (λ ps. (x : ℕ) → x < 2 ^ g .n → performed ps x ≡ target rows c x) (λ s x h. sym (still-target (g .n) rows c s x h))
       (λ f. plan-moves (g .n) (g .b) (g .m) (a .block-below) hm rows hr hs c)
 
-  module _ (hc : c < 2 ^ g .n) where
+  module _ (hc : c < 2 ^ g .n) (blanks : Bool) where
     -- the passes made can run
-    rounds-run : Runs (record { geometry = g; passes = passesMade g rows c })
+    rounds-run : Runs (record { geometry = g; blanks = blanks; passes = passesMade g rows c })
     rounds-run = record {
       inside = hg;
       few-passes = made-few;
@@ -93,20 +93,20 @@ module _ (g : Geometry) (rows : List ℕ) (c : ℕ) (hg : inLimits g ≡ true) (
     }
 
     -- the order's route can run
-    made-runs : Runs (record { geometry = g; passes = passesFor g rows c })
+    made-runs : Runs (record { geometry = g; blanks = blanks; passes = passesFor g rows c })
     made-runs =
-        by-passes g rows c hr (λ ps. Runs (record { geometry = g; passes = ps }))
+        by-passes g rows c hr (λ ps. Runs (record { geometry = g; blanks = blanks; passes = ps }))
         (λ s. record { inside = hg; few-passes = omega arith; each-runs = λ p h. absurd (omega arith) }) (λ f. rounds-run)
 
     -- its plan holds it ..
-    pub made-route : routeOf (planFor g rows c) ≡ record { geometry = g; passes = passesFor g rows c }
+    pub made-route : routeOf (planFor g rows c blanks) ≡ record { geometry = g; blanks = blanks; passes = passesFor g rows c }
     unfolding planFor
-    made-route = runs-back (record { geometry = g; passes = passesFor g rows c }) made-runs
+    made-route = runs-back (record { geometry = g; blanks = blanks; passes = passesFor g rows c }) made-runs
 
     -- .. and is one that can run
-    pub made-sound : sound (planFor g rows c) ≡ true
+    pub made-sound : sound (planFor g rows c blanks) ≡ true
     unfolding planFor
-    made-sound = runs→sound (record { geometry = g; passes = passesFor g rows c }) made-runs
+    made-sound = runs→sound (record { geometry = g; blanks = blanks; passes = passesFor g rows c }) made-runs
 
 -- ---- any sound plan that performs an order, whoever made it
 module _ (plan : Plan) (e : sound plan ≡ true) (rows : List ℕ) (c : ℕ)

@@ -81,7 +81,7 @@ pub route-back : (route : Route) → length (route .passes) ≤ PASSES → route
     → ((p : ℕ) → p < length (route .passes) → length (passAt route p .rows) ≡ route .geometry .n) → routeOf (planOf route) ≡ route
 unfolding planOf routeOf
 route-back route few wide all =
-    ap (λ (ps : List Pass). record { geometry = route .geometry; passes = ps }) same
+    ap (λ (ps : List Pass). record { geometry = route .geometry; blanks = route .blanks; passes = ps }) same
   where
     same : routeOf (planOf route) .passes ≡ route .passes
     same =

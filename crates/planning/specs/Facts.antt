@@ -1,7 +1,7 @@
 -- What is true of the plan without choices? In the order of the rules. What a plan does for an order, and in how many passes,
 -- stands with the demands. Assumes nothing.
 use mathlib.Core.Path.{_≡_}
-use mathlib.Core.Bool.{false, not, true}
+use mathlib.Core.Bool.{Bool, false, not, true}
 use mathlib.Core.List.{List, [], _∷_}
 use Prim.Native.Nat.{ℕ, _*_, _-_, _/_, _%_, _^_, _<_, _≤_}
 use lib.Bits.{bitXor}
@@ -105,8 +105,8 @@ pub record PlanFacts (g : Geometry) (rows : List ℕ) (c : ℕ) : Type 0 where
   -- with no rounds the only pass of any other order is A, with c
   pub no-rounds : (Still (g .n) rows c → ⊥) → rank (phi (g .m) (columns (g .n) rows)) (g .m) ≡ 0
       → passesFor g rows c ≡ record { rows = rows; complement = c } ∷ []
-  -- the plan has room for the passes, and holds them as they were made
-  pub holds : routeOf (planFor g rows c) ≡ record { geometry = g; passes = passesFor g rows c }
+  -- the plan has room for the passes, and holds them as they were made, and whether the spent area is to be blanked
+  pub holds : (blanks : Bool) → routeOf (planFor g rows c blanks) ≡ record { geometry = g; blanks = blanks; passes = passesFor g rows c }
 
 -- ---- all of it
 

@@ -1,4 +1,5 @@
 -- How are passes stored in a plan, and which passes does a plan of any content hold? Assumes nothing.
+use mathlib.Core.Bool.{Bool, false}
 use mathlib.Core.List.{List}
 use Prim.Native.Nat.{ℕ, _*_, _/_, _%_}
 use lib.ListN.{length, getD, take, drop, replicate}
@@ -22,6 +23,7 @@ unfoldable pub planOf : Route → Plan
 planOf route =
     record {
       geometry = route .geometry;
+      blanks = route .blanks;
       count = length (route .passes);
       rows = storedRows PASSES ROWS (route .passes);
       complements = storedComplements PASSES (route .passes);
@@ -36,19 +38,21 @@ unfoldable pub routeOf : Plan → Route
 routeOf plan =
     record {
       geometry = plan .geometry;
+      blanks = plan .blanks;
       passes = listed (storedPass ROWS (plan .geometry .n) (plan .rows) (plan .complements)) (plan .count) 0;
     }
 
--- zero everywhere
+-- zero everywhere, and nothing to blank
 abbrev pub emptyPlan : Plan
 emptyPlan =
     record {
       geometry = record { n = 0; b = 0; d = 0; m = 0; r = 0 };
+      blanks = false;
       count = 0;
       rows = replicate (PASSES * ROWS) 0;
       complements = replicate PASSES 0;
     }
 
--- the plan of the order A, c
-unfoldable pub planFor : Geometry → List ℕ → ℕ → Plan
-planFor g rows c = planOf (record { geometry = g; passes = passesFor g rows c })
+-- the plan of the order A, c, which keeps what was asked of the spent area
+unfoldable pub planFor : Geometry → List ℕ → ℕ → Bool → Plan
+planFor g rows c blanks = planOf (record { geometry = g; blanks = blanks; passes = passesFor g rows c })

@@ -1,6 +1,6 @@
 -- Which plans are judged sound, and what does a plan total? Assumes nothing.
-use mathlib.Core.Path.{_≡_, refl, sym, ap, _∙_}
-use mathlib.Core.Bool.{Bool, true, false, not, _&&_, _||_}
+use mathlib.Core.Path.{_≡_, refl, sym, subst, ap, _∙_}
+use mathlib.Core.Bool.{Bool, true, false, cond, not, _&&_, _||_}
 use mathlib.Core.List.{List}
 use Prim.Native.Nat.{ℕ, _+_, _*_, _/_, _%_, _^_, _≤_, _<_}
 use native.Mathlib.Nat.{div-le-self, mul-le-mul, mul-pos}
@@ -22,6 +22,7 @@ use Rattle.planning.specs.Running.{canRun, countInLimits, singularPass, sound, 
 use Rattle.planning.specs.Stored.{routeOf, storedPass}
 use Rattle.planning.specs.declared.Plan.{Plan}
 use Rattle.planning.specs.declared.state.State.{State}
+use Rattle.planning.proofs.Phases.{phases-are}
 use Rattle.planning.proofs.Running.{sound→checked}
 use Rattle.planning.proofs.Stored.{route-at, route-length, taken-at}
 use Rattle.running.specs.Total.{totalSteps}
@@ -134,8 +135,11 @@ stripe-some g = mul-pos (pow-pos (g .b)) (pow-pos (g .d))
 
 -- a memoryload has so few phases that N for each of them is small
 pub few-phases : (route : Route) → length (phases route) ≤ 4
-unfolding phases
-few-phases route = omega arith
+few-phases route = subst (λ (k : ℕ). k ≤ 4) (sym (phases-are route)) (by (route .blanks))
+  where
+    by : (b : Bool) → cond b 3 2 ≤ 4
+    by true = omega arith
+    by false = omega arith
 
 pub phases-small : (kinds size : ℕ) → kinds ≤ 4 → size ≤ 2 ^ ROWS → kinds * size ≤ 4 * 2 ^ ROWS
 phases-small kinds size few h = mul-le-mul {n₁ = kinds} {m₁ = size} {n₂ = 4} {m₂ = 2 ^ ROWS} few h

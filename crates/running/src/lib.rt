@@ -188,6 +188,10 @@ pub fn can_run(plan: Plan, state: State) -> bool
 pub fn phases(plan: Plan) -> u64
     ensures { λ r. ⌜ r ≡ length (phases (routeOf plan)) ⌝ }
 {
+    if plan.blanks {
+        let all = [Phase::Reads, Phase::Writes, Phase::Blanks];
+        return all.len() as u64;
+    }
     let all = [Phase::Reads, Phase::Writes];
     all.len() as u64
 }

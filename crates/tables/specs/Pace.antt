@@ -5,7 +5,7 @@ use Prim.Native.Nat.{ℕ, zero, suc, _/_, _%_}
 use Rattle.bank.specs.declared.Geometry.{Geometry}
 use Rattle.bank.specs.Geometry.{tiers}
 use Rattle.planning.specs.declared.Phase.{Phase}
-use Rattle.planning.specs.declared.Phase.the-variants.{Reads, Writes}
+use Rattle.planning.specs.declared.Phase.the-variants.{Reads, Writes, Blanks}
 use Rattle.planning.specs.Pass.{Route, loadSteps, passSteps}
 use Rattle.tables.specs.declared.pace.Pace.{Pace}
 use Rattle.tables.specs.declared.pace.Standing.{Standing}
@@ -17,7 +17,8 @@ paceOf route = record { phase = tiers (route .geometry); load = loadSteps route;
 -- the phase at place k of a memoryload's
 unfoldable pub phaseAt : ℕ → Phase
 phaseAt zero = Reads
-phaseAt (suc k) = Writes
+phaseAt (suc zero) = Writes
+phaseAt (suc (suc k)) = Blanks
 
 -- the load, the phase and the tier of step s
 abbrev pub standingAt : Pace → ℕ → Standing

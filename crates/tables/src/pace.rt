@@ -55,7 +55,10 @@ pub fn pass_of(plan: Plan, s: Step) -> u64
 fn phase_at(k: u64) -> Phase
     ensures { λ r. ⌜ r ≡ phaseAt k ⌝ }
 {
-    if k == 0 { Phase::Reads } else { Phase::Writes }
+    if k == 0 {
+        return Phase::Reads;
+    }
+    if k == 1 { Phase::Writes } else { Phase::Blanks }
 }
 
 // Where in its pass a step stands, at a pace.

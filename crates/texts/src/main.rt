@@ -17,7 +17,7 @@ fn answer(text: &[u8]) {
         io::write_all(STDOUT_FILENO, &line[..k]);
         return;
     }
-    let planned = make_plan(read.order);
+    let planned = make_plan(read.order, false);
     let mut room = [0u8; ROOM];
     let k = list_plan(planned.plan, &mut room);
     if k != listing_size(planned.plan) {

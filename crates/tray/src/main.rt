@@ -1,12 +1,14 @@
-// tray ORDER [AGAIN] < RECORDS > TRAYS: the order text in the file ORDER, the run on standard input, and the run in tray order on standard output.
+// tray ORDER [AGAIN] [blank] < RECORDS > TRAYS: the order text in the file ORDER, the run on standard input, and the run in tray order on
+// standard output. With `blank` the spent area is blanked, and what is left of the run is looked for.
 // What decides is `delivery::deliver`; here are the words, the files and the buffers.
 mod say; // say.rt: the lines on standard error
 mod call; // call.rt: the words of the call
 
-use crate::call::Again;
-use crate::call::read_again;
+use crate::call::Asked;
+use crate::call::read_call;
 use delivery::Delivery;
 use delivery::deliver;
+use delivery::look::all_zero;
 use libc::STDERR_FILENO;
 use libc::STDIN_FILENO;
 use libc::STDOUT_FILENO;
@@ -29,13 +31,36 @@ fn how_to_say() -> Progress {
     Progress::Lines
 }
 
+// Says that no byte of the run is left in the other area and in memory, after a look at every byte of them.
+fn look(spare: &[u8], memory: &[u8]) {
+    if !all_zero(spare) {
+        say::not_blanked(b"the other area");
+        return;
+    }
+    if !all_zero(memory) {
+        say::not_blanked(b"the memory");
+        return;
+    }
+    say::blanked();
+}
+
 // The run as it came in goes out in tray order, or nothing does.
-fn answer(text: &[u8], again: u64, run: &mut [u8], spare: &mut [u8], memory: &mut [u8]) {
-    let delivery = deliver(text, again, how_to_say(), run, spare, memory);
+fn answer(
+    text: &[u8],
+    blanks: bool,
+    again: u64,
+    run: &mut [u8],
+    spare: &mut [u8],
+    memory: &mut [u8],
+) {
+    let delivery = deliver(text, blanks, again, how_to_say(), run, spare, memory);
     match delivery {
         Delivery::Done => {
             if !io::write_all(STDOUT_FILENO, run) {
                 os::fail(b"standard output");
+            }
+            if blanks {
+                look(spare, memory);
             }
         }
         Delivery::Refused(k, z) => {
@@ -48,13 +73,20 @@ fn answer(text: &[u8], again: u64, run: &mut [u8], spare: &mut [u8], memory: &mu
 }
 
 // Standard input is read to its end, or until it is longer than any run that has room.
-fn take_in(text: &[u8], again: u64, run: &mut [u8], spare: &mut [u8], memory: &mut [u8]) {
+fn take_in(
+    text: &[u8],
+    blanks: bool,
+    again: u64,
+    run: &mut [u8],
+    spare: &mut [u8],
+    memory: &mut [u8],
+) {
     let came = io::read_full(STDIN_FILENO, run);
-    answer(text, again, &mut run[..came], spare, memory);
+    answer(text, blanks, again, &mut run[..came], spare, memory);
 }
 
 // The text in the file that the first word names.
-fn open(again: u64, run: &mut [u8], spare: &mut [u8], memory: &mut [u8]) {
+fn open(blanks: bool, again: u64, run: &mut [u8], spare: &mut [u8], memory: &mut [u8]) {
     let mut path = io::buffer();
     let length = os::arg(1, &mut path);
     let fd = os::open_read(&path[..length]);
@@ -65,23 +97,26 @@ fn open(again: u64, run: &mut [u8], spare: &mut [u8], memory: &mut [u8]) {
     let mut text = text_room();
     let n = io::read_full(fd, &mut text);
     libc::close(fd);
-    take_in(&text[..n], again, run, spare, memory);
+    take_in(&text[..n], blanks, again, run, spare, memory);
 }
 
 // Lent by their types, the buffers need no proof of their lengths.
 fn start(run: &mut [u8; INPUT], spare: &mut [u8; AREA], memory: &mut [u8; MEMORY]) {
-    match read_again() {
-        Again::Times(k) => {
-            open(k, run, spare, memory);
+    match read_call() {
+        Asked::Times(k, blanks) => {
+            open(blanks, k, run, spare, memory);
         }
-        Again::Missing => {
+        Asked::Missing => {
             say::missing();
         }
-        Again::TooMany => {
+        Asked::TooMany => {
             say::too_many();
         }
-        Again::NoNumber => {
+        Asked::NoNumber => {
             say::no_number();
+        }
+        Asked::NoBlank => {
+            say::no_blank();
         }
     }
 }

@@ -15,7 +15,7 @@ fn count(n: u64) {
 // How to call it, to the end of the line.
 fn call() {
     words(
-        b": tray ORDER [AGAIN] < RECORDS > TRAYS, where ORDER is a file with an order text and AGAIN a number of at most 10 digits\n",
+        b": tray ORDER [AGAIN] [blank] < RECORDS > TRAYS, where ORDER is a file with an order text and AGAIN a number of at most 10 digits\n",
     );
 }
 
@@ -32,6 +32,20 @@ pub(crate) fn too_many() {
 pub(crate) fn no_number() {
     words(b"AGAIN is no number");
     call();
+}
+
+pub(crate) fn no_blank() {
+    words(b"the last word isn't blank");
+    call();
+}
+
+pub(crate) fn blanked() {
+    words(b"the other area and the memory are zero in every byte\n");
+}
+
+pub(crate) fn not_blanked(what: &[u8]) {
+    words(what);
+    words(b" isn't zero in every byte\n");
 }
 
 pub(crate) fn not_opened(path: &[u8]) {

@@ -1,6 +1,11 @@
-// Makes the deliveries that the arguments name, three words each: an order text, a run, and how often each step is sent again.
-// Writes for each its words, and then the run in tray order, or the line that says why there is none.
+// Makes the deliveries that the arguments name, four words each: an order text, a run, how often each step is sent again, and `blank` where the
+// spent area is to be blanked or `keep` where it isn't.
+// Writes for each its words, and then the run in tray order, or the line that says why there is none; after a run with `blank`, how much is zero.
+mod spent; // spent.rt: the other area and the memory, before a delivery and after it
+
 ghost use Rattle.io.specs.Counts.{Counts};
+use crate::spent::mark;
+use crate::spent::zeros;
 use delivery::Delivery;
 use delivery::deliver;
 use libc::STDOUT_FILENO;
@@ -9,6 +14,7 @@ use listing::refusal::write_refusal;
 use reading::text_room;
 use sending::progress::Progress;
 use words::Word;
+use words::is_word;
 use words::read_number;
 
 // The most bytes of a run and of its memory, and a run with one byte by which to see that more came.
@@ -44,11 +50,30 @@ fn file(which: usize, into: &mut [u8]) -> usize
     came
 }
 
-fn answer(text: &[u8], again: u64, run: &mut [u8], spare: &mut [u8], memory: &mut [u8]) {
-    let delivery = deliver(text, again, Progress::Silent, run, spare, memory);
+// Both were marked whole, so the counts tell a byte too many that was blanked as they tell one too few.
+fn tell_zeros(spare: &[u8], memory: &[u8]) {
+    words(b"zero: ");
+    count(zeros(spare));
+    words(b" of the other area, ");
+    count(zeros(memory));
+    words(b" of memory\n");
+}
+
+fn answer(
+    text: &[u8],
+    blanks: bool,
+    again: u64,
+    run: &mut [u8],
+    spare: &mut [u8],
+    memory: &mut [u8],
+) {
+    let delivery = deliver(text, blanks, again, Progress::Silent, run, spare, memory);
     match delivery {
         Delivery::Done => {
             words(run);
+            if blanks {
+                tell_zeros(spare, memory);
+            }
         }
         Delivery::Refused(number, z) => {
             let mut line = [0u8; REFUSAL];
@@ -68,17 +93,27 @@ fn times(which: usize) -> u64 {
     let mut word = io::buffer();
     let length = os::arg(which, &mut word);
     words(&word[..length]);
-    words(b"\n");
+    words(b" ");
     let Word::Number(k) = read_number(&word[..length]) else {
         return 0;
     };
     k
 }
 
+// Whether an argument, the last of a delivery, is `blank`.
+fn says_blank(which: usize) -> bool {
+    let mut word = io::buffer();
+    let length = os::arg(which, &mut word);
+    words(&word[..length]);
+    words(b"\n");
+    is_word(&word[..length], b"blank")
+}
+
 fn one(
     order: usize,
     input: usize,
     again: usize,
+    blank: usize,
     run: &mut [u8],
     spare: &mut [u8],
     memory: &mut [u8],
@@ -87,16 +122,19 @@ fn one(
     let n = file(order, &mut text);
     let came = file(input, run);
     let k = times(again);
-    answer(&text[..n], k, &mut run[..came], spare, memory);
+    let blanks = says_blank(blank);
+    mark(spare);
+    mark(memory);
+    answer(&text[..n], blanks, k, &mut run[..came], spare, memory);
 }
 
-// Three words after three words. Lent by their types, the buffers need no proof of their lengths.
+// Four words after four words. Lent by their types, the buffers need no proof of their lengths.
 fn all(run: &mut [u8; INPUT], spare: &mut [u8; AREA], memory: &mut [u8; MEMORY]) {
-    let deliveries = os::arg_count() / 3;
+    let deliveries = os::arg_count() / 4;
     let mut i = 0;
     while i < deliveries {
-        let k = i * 3;
-        one(k + 1, k + 2, k + 3, run, spare, memory);
+        let k = i * 4;
+        one(k + 1, k + 2, k + 3, k + 4, run, spare, memory);
         i += 1;
     }
 }

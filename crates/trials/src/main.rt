@@ -5,6 +5,7 @@ mod plans; // plans.rt: plans made, and plans judged
 mod why; // why.rt: why an order is singular
 mod steps; // steps.rt: steps and runs on lent bytes
 mod still; // still.rt: an order that leaves every record where it is
+mod blanks; // blanks.rt: plans that blank the spent area
 mod limits; // limits.rt: what is tried at the limits
 
 fn main() {
@@ -25,6 +26,11 @@ fn main() {
     still::planned();
     still::asked();
     still::runs();
+    blanks::planned();
+    blanks::judged();
+    blanks::one_blank();
+    blanks::in_parts();
+    blanks::wholes();
     limits::words();
     limits::made();
     limits::counts();

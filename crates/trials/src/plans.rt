@@ -10,9 +10,9 @@ use running::can_run;
 use running::result_area;
 use running::total_steps;
 
-// Number, passes, steps, result area and z.
-pub(crate) fn planned(asked: &[u8], o: Order) {
-    let p = make_plan(o);
+// Number, passes, steps, result area and z, where the plan blanks or doesn't; and whether it says so.
+pub(crate) fn planned_so(asked: &[u8], o: Order, blanks: bool) -> bool {
+    let p = make_plan(o, blanks);
     let made = p.plan;
     say::five(
         asked,
@@ -22,6 +22,11 @@ pub(crate) fn planned(asked: &[u8], o: Order) {
         result_area(made) as u64,
         p.z.0,
     );
+    made.blanks
+}
+
+pub(crate) fn planned(asked: &[u8], o: Order) {
+    planned_so(asked, o, false);
 }
 
 pub(crate) fn runs(asked: &[u8], p: Plan, next: u64) {
@@ -41,7 +46,7 @@ fn row(asked: &[u8], p: Plan, at: usize) {
 }
 
 fn reversal() -> Plan {
-    let p = make_plan(orders::reversal());
+    let p = make_plan(orders::reversal(), false);
     p.plan
 }
 

@@ -1,4 +1,5 @@
 // The trial orders on steps and runs: what each call answers, and what the bytes are afterwards.
+use crate::blanks;
 use crate::orders;
 use crate::say;
 use bank::Address;
@@ -36,7 +37,7 @@ pub(crate) fn label(area: &mut [u8], first: u64) {
 }
 
 // How many bytes are not those of their label.
-fn changed(area: &[u8], first: u64) -> u64 {
+pub(crate) fn changed(area: &[u8], first: u64) -> u64 {
     let mut count = 0u64;
     let mut i = 0;
     while i < area.len() {
@@ -65,7 +66,7 @@ fn state(s: Stepped) -> State {
 }
 
 fn reversal() -> Plan {
-    let p = make_plan(orders::reversal());
+    let p = make_plan(orders::reversal(), false);
     p.plan
 }
 
@@ -113,7 +114,7 @@ fn after_write(i: usize) -> u8 {
     label_of(i, 150)
 }
 
-fn wrongly_written(area: &[u8]) -> u64 {
+pub(crate) fn wrongly_written(area: &[u8]) -> u64 {
     let mut count = 0u64;
     let mut i = 0;
     while i < area.len() {
@@ -156,15 +157,15 @@ pub(crate) fn one_write() {
 }
 
 // What there is between two calls in G: the buffers, and the state.
-struct Moment {
-    area0: [u8; AREA],
-    area1: [u8; AREA],
-    memory: [u8; MEMORY],
-    state: State,
+pub(crate) struct Moment {
+    pub(crate) area0: [u8; AREA],
+    pub(crate) area1: [u8; AREA],
+    pub(crate) memory: [u8; MEMORY],
+    pub(crate) state: State,
 }
 
 // The moment after a step that is asked for.
-fn asks(asked: &[u8], p: Plan, l: Moment, k: u64) -> Moment {
+pub(crate) fn asks(asked: &[u8], p: Plan, l: Moment, k: u64) -> Moment {
     let mut area0 = l.area0;
     let mut area1 = l.area1;
     let mut memory = l.memory;
@@ -178,7 +179,7 @@ fn asks(asked: &[u8], p: Plan, l: Moment, k: u64) -> Moment {
 }
 
 // The moment after a run.
-fn goes(asked: &[u8], p: Plan, l: Moment, allowance: u64) -> Moment {
+pub(crate) fn goes(asked: &[u8], p: Plan, l: Moment, allowance: u64) -> Moment {
     let mut area0 = l.area0;
     let mut area1 = l.area1;
     let mut memory = l.memory;
@@ -288,7 +289,7 @@ pub(crate) fn lengths() {
 }
 
 // Every step asked twice: how many were answered 0 and 9.
-fn twice(p: Plan, area0: &mut [u8], area1: &mut [u8], memory: &mut [u8]) -> u64 {
+pub(crate) fn twice(p: Plan, area0: &mut [u8], area1: &mut [u8], memory: &mut [u8]) -> u64 {
     let total = total_steps(p);
     let mut s = State::fresh();
     let mut right = 0u64;
@@ -308,7 +309,7 @@ fn twice(p: Plan, area0: &mut [u8], area1: &mut [u8], memory: &mut [u8]) -> u64 
 }
 
 // How many of the n records are at Ax xor c in the area: record x is labelled 50 + x.
-fn arrived(o: Order, area: &[u8], n: u64) -> u64 {
+pub(crate) fn arrived(o: Order, area: &[u8], n: u64) -> u64 {
     let mut count = 0u64;
     let mut x = 0u64;
     while x < n {
@@ -326,20 +327,37 @@ fn arrived(o: Order, area: &[u8], n: u64) -> u64 {
     count
 }
 
-// A whole run with each step again: steps answered rightly, and records that arrived.
-fn whole_on(asked: &[u8], o: Order, n: u64, area0: &mut [u8], area1: &mut [u8], memory: &mut [u8]) {
-    let made = make_plan(o);
-    let p = made.plan;
+pub(crate) fn fill(area0: &mut [u8], area1: &mut [u8], memory: &mut [u8]) {
     label(area0, 50);
+    label(area1, 150);
+    label(memory, 100);
+}
+
+// A whole run with each step again: steps answered rightly, and records that arrived; where the plan blanks, bytes that are zero too.
+fn whole_on(
+    asked: &[u8],
+    o: Order,
+    blanking: bool,
+    n: u64,
+    area0: &mut [u8],
+    area1: &mut [u8],
+    memory: &mut [u8],
+) {
+    let made = make_plan(o, blanking);
+    let p = made.plan;
+    fill(area0, area1, memory);
     let right = twice(p, area0, area1, memory);
     if result_area(p) == 0 {
         say::two(asked, right, arrived(o, area0, n));
     } else {
         say::two(asked, right, arrived(o, area1, n));
     }
+    if blanking {
+        blanks::say_zeros(area0, area1, memory);
+    }
 }
 
-fn whole(asked: &[u8], o: Order, n: u64, bytes: usize, room: usize) {
+pub(crate) fn whole(asked: &[u8], o: Order, blanking: bool, n: u64, bytes: usize, room: usize) {
     let mut area0 = [0u8; AREA];
     let mut area1 = [0u8; AREA];
     let mut memory = [0u8; MEMORY];
@@ -348,6 +366,7 @@ fn whole(asked: &[u8], o: Order, n: u64, bytes: usize, room: usize) {
             whole_on(
                 asked,
                 o,
+                blanking,
                 n,
                 &mut area0[0..bytes],
                 &mut area1[0..bytes],
@@ -358,22 +377,16 @@ fn whole(asked: &[u8], o: Order, n: u64, bytes: usize, room: usize) {
 }
 
 pub(crate) fn wholes() {
-    whole(b"reversal, whole", orders::reversal(), 16, AREA, MEMORY);
-    whole(
-        b"identity, c = 15, whole",
-        orders::identity(15),
-        16,
-        AREA,
-        MEMORY,
-    );
-    whole(b"identity, whole", orders::identity(0), 16, AREA, MEMORY);
-    whole(b"Gray code, whole", orders::gray(), 16, AREA, MEMORY);
-    whole(
-        b"0010 0001 1000 0100, whole",
-        orders::exchange(),
-        16,
-        AREA,
-        MEMORY,
-    );
-    whole(b"n = 2, 01 10, whole", orders::small(), 4, 32, 16);
+    let o = orders::reversal();
+    whole(b"reversal, whole", o, false, 16, AREA, MEMORY);
+    let o = orders::identity(15);
+    whole(b"identity, c = 15, whole", o, false, 16, AREA, MEMORY);
+    let o = orders::identity(0);
+    whole(b"identity, whole", o, false, 16, AREA, MEMORY);
+    let o = orders::gray();
+    whole(b"Gray code, whole", o, false, 16, AREA, MEMORY);
+    let o = orders::exchange();
+    whole(b"0010 0001 1000 0100, whole", o, false, 16, AREA, MEMORY);
+    let o = orders::small();
+    whole(b"n = 2, 01 10, whole", o, false, 4, 32, 16);
 }

@@ -11,7 +11,7 @@ use planning::Plan;
 use planning::state::State;
 
 fn identity() -> Plan {
-    let p = make_plan(orders::identity(0));
+    let p = make_plan(orders::identity(0), false);
     p.plan
 }
 

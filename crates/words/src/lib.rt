@@ -1,4 +1,7 @@
-// Is a word a number, and which?
+// Is a word a number, and which? Is it the one that is wanted?
+ghost use mathlib.Core.Path.{_≡_};
+ghost use mathlib.Core.Bool.{true};
+ghost use mathlib.Core.Logic.{_↔_};
 ghost use Rattle.words.specs.Digit.{DigitOf};
 ghost use Rattle.words.specs.Says.{Says};
 
@@ -51,4 +54,21 @@ pub fn read_number(word: &[u8]) -> Word
         i += 1;
     }
     Word::Number(value)
+}
+
+// Whether the word is the one that is wanted.
+pub fn is_word(word: &[u8], wanted: &[u8]) -> bool
+    ensures { λ r. ⌜ (r ≡ true) ↔ (now (word .entry) ≡ now (wanted .entry)) ⌝ }
+{
+    if word.len() != wanted.len() {
+        return false;
+    }
+    let mut i = 0;
+    while i < word.len() {
+        if word[i] != wanted[i] {
+            return false;
+        }
+        i += 1;
+    }
+    true
 }

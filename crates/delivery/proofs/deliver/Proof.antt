@@ -17,7 +17,7 @@ returns : tie.Need-returns
 returns c =
     let s = c .before .before .before .before .before .before .before .before in
     let r = c .before .before .before .read-order in
-    unread-promise (s .args .text .now) (lent s) (r .result .number) (r .result .order) (r .result .z .0) (r .ensures) (c .if1 .taken)
+    unread-promise (s .args .text .now) (s .args .blanks) (lent s) (r .result .number) (r .result .order) (r .result .z .0) (r .ensures) (c .if1 .taken)
 
 is-taken : (c : tie.Else1)
     → Taken (c .before .before .before .before .before .before .before .before .args .text .now) (c .before .before .before .read-order .result .order)
@@ -48,15 +48,15 @@ measured a =
     }
 
 returns-2 : tie.Need-returns-2
-returns-2 c = let a = c .before in short-area (measured a) (lent (start a)) (c .if2 .taken)
+returns-2 c = let a = c .before in short-area (measured a) (start a .args .blanks) (lent (start a)) (c .if2 .taken)
 
 returns-3 : tie.Need-returns-3
-returns-3 c = let a = c .before .before in short-memory (measured a) (lent (start a)) (omega (arith, c .before .if2 .left)) (c .if3 .taken)
+returns-3 c = let a = c .before .before in short-memory (measured a) (start a .args .blanks) (lent (start a)) (omega (arith, c .before .if2 .left)) (c .if3 .taken)
 
 returns-4 : tie.Need-returns-4
 returns-4 c =
     let a = c .before .before .before in
-    other-length-promise (measured a) (lent (start a)) (omega (arith, c .before .before .if2 .left)) (omega (arith, c .before .if3 .left)) (c .if4 .taken)
+    other-length-promise (measured a) (start a .args .blanks) (lent (start a)) (omega (arith, c .before .before .if2 .left)) (omega (arith, c .before .if3 .left)) (c .if4 .taken)
 
 -- ---- the parts that are lent on
 
@@ -66,7 +66,7 @@ set-in-order-requires c κs =
     let a = e .before .before .before in
     let t = is-taken (else1 a) in (
       (t .judged, t .room),
-      parts-fit (from-start (measured a)) (lent (start a)) (omega (arith, e .before .before .if2 .left)) (omega (arith, e .before .if3 .left))
+      parts-fit (from-start (measured a)) (start a .args .blanks) (lent (start a)) (omega (arith, e .before .before .if2 .left)) (omega (arith, e .before .if3 .left))
           (omega (arith, e .if4 .left)),
     )
 
@@ -75,8 +75,8 @@ returns-5 c =
     let e = c .before .before .before .before .before .before .before .before .before .before in
     let a = e .before .before .before in
     let l = c .before .before .before .before .before .before .set-in-order in
-    done-promise (from-start (measured a)) (lent (start a)) (omega (arith, e .before .before .if2 .left)) (omega (arith, e .before .if3 .left))
-    (omega (arith, e .if4 .left)) (buffersOf (l .last .1 .1 .1 .0) (l .last .1 .1 .1 .1 .0) (l .last .1 .1 .1 .1 .1 .0)) (l .ensures)
+    done-promise (from-start (measured a)) (start a .args .blanks) (lent (start a)) (omega (arith, e .before .before .if2 .left)) (omega (arith, e .before .if3 .left))
+    (omega (arith, e .if4 .left)) (buffersOf (l .last .1 .1 .1 .1 .0) (l .last .1 .1 .1 .1 .1 .0) (l .last .1 .1 .1 .1 .1 .1 .0)) (l .ensures)
 
 pub deliver-spec : {M : Type 1} → statement M
 deliver-spec =

@@ -1,4 +1,4 @@
--- `trays::all` is safe and ends: the deliveries are counted, and three words each are no more than there are. Assumes nothing.
+-- `trays::all` is safe and ends: the deliveries are counted, and four words each are no more than there are. Assumes nothing.
 use Prim.Native.Nat.{_≤_, _-_}
 use borrow.Author.Needs.{needs}
 use Rattle.trays.proofs.all.Statement.{statement}
@@ -13,4 +13,4 @@ abbrev μ-loop : tie.MeasureT-loop
 pub all-spec : {M : Type 1} → statement M
 all-spec =
     tie.close (tie.spec Inv-loop μ-loop (λ c κs. search needs) (λ c. search needs) (λ c. search needs) (λ c. search needs) (λ c. search needs)
-    (λ c. search needs) (λ c κs. search needs) (λ c. search needs) (λ c. search needs) (λ c. search needs) (λ c. search needs))
+    (λ c. search needs) (λ c. search needs) (λ c κs. search needs) (λ c. search needs) (λ c. search needs) (λ c. search needs) (λ c. search needs))

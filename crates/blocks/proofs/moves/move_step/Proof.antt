@@ -36,21 +36,23 @@ move-between-requires-2 c κs =
 
 returns : tie.Need-returns
 returns c =
-    let then = c .before .before .before .before .before .before .before .before in
+    let moved = c .before .before .before .before .before .before in
+    let then = moved .before .before .before .before in
     let at = then .before .before in
     let s = start at in
-    let w = c .before .before .before .before .move-between in
+    let w = moved .move-between in
     side-move (s .args .t) (s .args .s .0) (lent s) zeroth (at .standing-of .ensures) (rw (eq-eqb (s .args .t .pass % 2) 0 (then .if1 .taken)))
-    (w .ensures .0) (w .ensures .1)
+    (w .ensures .0) (w .ensures .1) (w .ensures .2)
 
 returns-2 : tie.Need-returns-2
 returns-2 c =
-    let else = c .before .before .before .before .before .before .before .before in
+    let moved = c .before .before .before .before .before .before in
+    let else = moved .before .before .before .before in
     let at = else .before .before in
     let s = start at in
-    let w = c .before .before .before .before .move-between2 in
+    let w = moved .move-between2 in
     side-move (s .args .t) (s .args .s .0) (lent s) first (at .standing-of .ensures) (rw (ne-eqb (s .args .t .pass % 2) 0 (else .if1 .left)))
-    (w .ensures .0) (w .ensures .1)
+    (w .ensures .0) (w .ensures .1) (w .ensures .2)
 
 pub move-step-spec : {M : Type 1} → statement M
 move-step-spec =

@@ -9,7 +9,8 @@ use Rattle.algebra.specs.Matrix.{target}
 use Rattle.bank.specs.Geometry.{memorySize}
 use Rattle.tables.proofs.Columns.{blocks-room, columns-room}
 use Rattle.tables.proofs.Sizes.{records-fit}
-use Rattle.blocks.proofs.Steps.{in-area, in-memory, load-lt, on-drive, write-is}
+use Rattle.stripes.proofs.Stripes.{load-lt}
+use Rattle.blocks.proofs.Writes.{in-area, in-memory, on-drive, write-is}
 use Rattle.tables.specs.Tables.{passFor}
 use borrow.Author.Needs.{needs}
 use Rattle.bank.proofs.Limits.{Allowed, limits, limits→allowed}

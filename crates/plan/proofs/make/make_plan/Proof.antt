@@ -11,7 +11,7 @@ returns : tie.Need-returns
 returns c =
     let s = c .before .before .before .before in
     let j = c .before .before .before .judge in
-    answer-refused (s .args .order) (j .result) (c .empty-plan .result) (j .ensures) (c .before .if1 .taken) (c .empty-plan .ensures)
+    answer-refused (s .args .order) (s .args .blanks) (j .result) (c .empty-plan .result) (j .ensures) (c .before .if1 .taken) (c .empty-plan .ensures)
 
 plan-for-requires : tie.Need-plan-for-requires
 plan-for-requires c κs =
@@ -24,7 +24,7 @@ returns-2 : tie.Need-returns-2
 returns-2 c =
     let s = c .before .before .before .before .before in
     let j = c .before .before .before .before .judge in
-    answer-taken (s .args .order) (j .result) (c .plan-for .result) (j .ensures) (c .before .before .if1 .left) (c .plan-for .ensures)
+    answer-taken (s .args .order) (s .args .blanks) (j .result) (c .plan-for .result) (j .ensures) (c .before .before .if1 .left) (c .plan-for .ensures)
 
 pub make-plan-spec : {M : Type 1} → statement M
 make-plan-spec = tie.close (tie.spec (λ c κs. search needs) (λ c κs. search needs) returns plan-for-requires returns-2)

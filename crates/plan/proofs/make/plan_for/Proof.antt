@@ -15,13 +15,13 @@ returns : tie.Need-returns
 returns c =
     let t = c .before in
     let a = t .before .before .before .before .args in
-    c .no-passes .ensures ∙ plan-none (a .g) (take (a .g .n) (a .t2)) (a .c) (sym (t .before .is-still .ensures) ∙ t .if1 .taken)
+    c .no-passes .ensures ∙ plan-none (a .g) (take (a .g .n) (a .t2)) (a .c) (a .blanks) (sym (t .before .is-still .ensures) ∙ t .if1 .taken)
 
 returns-2 : tie.Need-returns-2
 returns-2 c =
     let t = c .before in
     let a = t .before .before .before .before .args in
-    c .plan-made .ensures ∙ plan-some (a .g) (take (a .g .n) (a .t2)) (a .c) (sym (t .before .is-still .ensures) ∙ t .if1 .left)
+    c .plan-made .ensures ∙ plan-some (a .g) (take (a .g .n) (a .t2)) (a .c) (a .blanks) (sym (t .before .is-still .ensures) ∙ t .if1 .left)
 
 pub plan-for-spec : {M : Type 1} → statement M
 plan-for-spec =

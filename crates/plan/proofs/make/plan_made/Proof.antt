@@ -11,10 +11,10 @@ use Rattle.plan.proofs.make.plan_made.Statement.{statement}
 use Rattle.plan.proofs.make.plan_made.Tie as tie
 
 abbrev Inv-loop : tie.InvT-loop
-Inv-loop c n b m plan₀ cols₀ q₀ p₀ plan cols q p = Making (plan₀ .geometry) n b m c (ahead m n b m (take n cols₀) (take n q₀) c) plan (take n cols) (take n q) p
+Inv-loop c blanks n b m plan₀ cols₀ q₀ p₀ plan cols q p = Making (plan₀ .geometry) (plan₀ .blanks) n b m c (ahead m n b m (take n cols₀) (take n q₀) c) plan (take n cols) (take n q) p
 
 abbrev μ-loop : tie.MeasureT-loop
-μ-loop c n b m plan₀ cols₀ q₀ p₀ plan cols q p = m - p
+μ-loop c blanks n b m plan₀ cols₀ q₀ p₀ plan cols q p = m - p
 
 operate-requires : tie.Need-operate-requires Inv-loop μ-loop
 operate-requires c κs = let k = limits→allowed _ (c .before .before .before .before .pre .0) in (omega (arith, k .block-below), k .memory-below, k .n-high)
@@ -26,7 +26,7 @@ loop-holds c =
     let g = a .g in
     let o = c .before .before .before .operate in
     let e = c .before .before .no-passes in
-    make-start g (a .t2) (a .c) (s .pre .0) (search needs) (s .pre .1) (o .result .cols) (o .result .p) (o .ensures .0) (o .ensures .1) (e .result) (e .ensures)
+    make-start g (a .t2) (a .c) (a .blanks) (s .pre .0) (search needs) (s .pre .1) (o .result .cols) (o .result .p) (o .ensures .0) (o .ensures .1) (e .result) (e .ensures)
 
 is-busy-requires : tie.Need-is-busy-requires Inv-loop μ-loop
 is-busy-requires c κs = let k = c .before .loop .inv in (k .memory-below, k .wide)
@@ -77,7 +77,7 @@ returns c =
     let w = c .with-pass2 in
     let t = c .before .before .before .before in
     make-end (t .before .before .before .loop .inv) (sym (t .before .is-busy .ensures) ∙ t .if1 .left) (f .result) (w .result) (f .ensures) (w .ensures)
-    ∙ make-whole (a .g) (a .t2) (a .c) (s .pre .0) long (s .pre .1) (o .result .cols) (o .result .p) (o .ensures .0) (o .ensures .1) (e .result) (e .ensures)
+    ∙ make-whole (a .g) (a .t2) (a .c) (a .blanks) (s .pre .0) long (s .pre .1) (o .result .cols) (o .result .p) (o .ensures .0) (o .ensures .1) (e .result) (e .ensures)
 
 pub plan-made-spec : {M : Type 1} → statement M
 plan-made-spec =

@@ -1,5 +1,6 @@
 -- `plan::store::no_passes` meets its contract: no pass, stored, is zero everywhere. Assumes nothing.
 use mathlib.Core.Path.{_∙_, ap, sym}
+use mathlib.Core.Bool.{Bool}
 use borrow.Author.Needs.{needs}
 use Rattle.bank.specs.declared.Geometry.{Geometry}
 use Rattle.planning.specs.declared.Plan.{Plan}
@@ -7,12 +8,12 @@ use Rattle.plan.proofs.Storing.{stored-none}
 use Rattle.plan.proofs.store.no_passes.Statement.{statement}
 use Rattle.plan.proofs.store.no_passes.Tie as tie
 
--- a plan with another geometry
-abbrev onto : Geometry → Plan → Plan
-onto g plan = record { geometry = g; count = plan .count; rows = plan .rows; complements = plan .complements }
+-- a plan with another geometry and mark
+abbrev onto : Geometry → Bool → Plan → Plan
+onto g blanks plan = record { geometry = g; blanks = blanks; count = plan .count; rows = plan .rows; complements = plan .complements }
 
 returns : tie.Need-returns
-returns c = let g = c .before .args .g in ap (onto g) (c .empty-plan .ensures) ∙ sym (stored-none g)
+returns c = let a = c .before .args in ap (onto (a .g) (a .blanks)) (c .empty-plan .ensures) ∙ sym (stored-none (a .g) (a .blanks))
 
 pub no-passes-spec : {M : Type 1} → statement M
 no-passes-spec = tie.close (tie.spec (λ c κs. search needs) returns)

@@ -15,7 +15,7 @@ use Rattle.plan.proofs.store.with_pass.Tie as tie
 
 -- the plan with other rows
 abbrev withRows : Plan → List ℕ → Plan
-withRows plan rows = record { geometry = plan .geometry; count = plan .count; rows = rows; complements = plan .complements }
+withRows plan rows = record { geometry = plan .geometry; blanks = plan .blanks; count = plan .count; rows = rows; complements = plan .complements }
 
 abbrev Inv-loop : tie.InvT-loop
 Inv-loop p complement rows out₀ base i₀ out i =
@@ -51,7 +51,7 @@ returns c =
     let l = c .before .loop in
     let a = c .before .before .args in
     let e : l .i ≡ ROWS = omega arith in
-    ap (λ (x : Plan). record { geometry = x .geometry; count = a .p + 1; rows = x .rows; complements = set (x .complements) (a .p) (a .complement) })
+    ap (λ (x : Plan). record { geometry = x .geometry; blanks = x .blanks; count = a .p + 1; rows = x .rows; complements = set (x .complements) (a .p) (a .complement) })
     (rw e at (l .inv .6))
 
 pub with-pass-spec : {M : Type 1} → statement M

@@ -1,0 +1,110 @@
+// A stripe: a block on each drive, side by side, read into memory or blanked.
+ghost use mathlib.Core.Path.{_≡_};
+ghost use mathlib.Core.Bool.{true};
+ghost use Prim.Native.Nat.{_+_, _*_, _≤_, _<_};
+ghost use lib.ListN.{length};
+ghost use Rattle.bank.specs.Geometry.{inLimits, loads, tiers};
+ghost use Rattle.moving.specs.Bytes.{copied, zeroed};
+ghost use Rattle.moving.specs.Step.{blankTakes, readFrom, readTakes};
+ghost use Rattle.moving.specs.Laid.{cleared, laid};
+ghost use Rattle.stripes.specs.Stripe.{ReadReady, stripeOf};
+use crate::bytes::clear;
+use crate::bytes::copy_part;
+use bank::Block;
+use bank::Geometry;
+use bank::power;
+
+// Where a load's tier lies: its first block in the area and in memory, the bytes of a block, and the drives.
+struct Stripe {
+    first: Block,
+    place: Block,
+    size: usize,
+    drives: usize,
+}
+
+// The stripe of a load's tier.
+fn stripe_of(g: Geometry, load: u64, tier: u64) -> Stripe
+    requires { ⌜ (inLimits g ≡ true) × (load < loads g) × (tier < tiers g) ⌝ }
+    ensures { λ r. ⌜ r ≡ stripeOf g load tier ⌝ }
+{
+    let drives = power(g.d);
+    let size = power(g.b) * g.r as u64;
+    let place = tier * drives;
+    let blocks = power(g.m - g.b);
+    Stripe {
+        first: Block(load * blocks + place),
+        place: Block(place),
+        size: size as usize,
+        drives: drives as usize,
+    }
+}
+
+// The block of size bytes goes to memory's index at.
+fn read_block(memory: &mut [u8], at: usize, area: &[u8], block: Block, size: usize)
+    requires { ⌜ (at + size ≤ length (now memory)) × (block .0 * size + size ≤ length (now area)) ⌝ }
+    ensures { λ _. ⌜ now (memory .exit) ≡ laid (now (memory .entry)) at size (now (area .entry)) (block .0 * size) ⌝ }
+{
+    let o = block.0 as usize * size;
+    let e = o + size;
+    copy_part(memory, at, &area[o..e]);
+}
+
+// A block for each drive, from the first on: they lie side by side in the area and in memory.
+fn read_drives(memory: &mut [u8], at: usize, area: &[u8], first: Block, size: usize, drives: usize)
+    requires { ⌜ (at + drives * size ≤ length (now memory)) × (first .0 * size + drives * size ≤ length (now area)) × (0 < size) ⌝ }
+    ensures { λ _. ⌜ now (memory .exit) ≡ laid (now (memory .entry)) at (drives * size) (now (area .entry)) (first .0 * size) ⌝ }
+{
+    let mut q = 0;
+    let mut done = 0;
+    while q < drives {
+        let p = at + done;
+        let block = Block(first.0 + q as u64);
+        read_block(memory, p, area, block, size);
+        done += size;
+        q += 1;
+    }
+}
+
+// The read of a load's tier: on each drive, one block of the area goes to its place in memory.
+pub fn read_step(memory: &mut [u8], area: &[u8], g: Geometry, load: u64, tier: u64)
+    requires { ⌜ ReadReady g load tier (now area) (now memory) ⌝ }
+    ensures { λ _. ⌜ now (memory .exit) ≡ copied (readTakes g tier) (readFrom g load) (g .r) (now (area .entry)) (now (memory .entry)) ⌝ }
+{
+    let s = stripe_of(g, load, tier);
+    let at = s.place.0 as usize * s.size;
+    read_drives(memory, at, area, s.first, s.size, s.drives);
+}
+
+// The block of size bytes is lent on, and filled with zero.
+fn blank_block(area: &mut [u8], block: Block, size: usize)
+    requires { ⌜ block .0 * size + size ≤ length (now area) ⌝ }
+    ensures { λ _. ⌜ now (area .exit) ≡ cleared (now (area .entry)) (block .0 * size) size ⌝ }
+{
+    let o = block.0 as usize * size;
+    let e = o + size;
+    clear(&mut area[o..e]);
+}
+
+// A block for each drive, from the first on: they lie side by side.
+fn blank_drives(area: &mut [u8], first: Block, size: usize, drives: usize)
+    requires { ⌜ (first .0 * size + drives * size ≤ length (now area)) × (0 < size) ⌝ }
+    ensures { λ _. ⌜ now (area .exit) ≡ cleared (now (area .entry)) (first .0 * size) (drives * size) ⌝ }
+{
+    let mut q = 0;
+    while q < drives {
+        let block = Block(first.0 + q as u64);
+        blank_block(area, block, size);
+        q += 1;
+    }
+}
+
+// The blank of a load's tier: on each drive, one block of the area is filled with zero, and so is its place in memory.
+pub fn blank_step(area: &mut [u8], memory: &mut [u8], g: Geometry, load: u64, tier: u64)
+    requires { ⌜ ReadReady g load tier (now area) (now memory) ⌝ }
+    ensures { λ _. ⌜ (now (area .exit) ≡ zeroed (blankTakes g load tier) (g .r) (now (area .entry)))
+        × (now (memory .exit) ≡ zeroed (readTakes g tier) (g .r) (now (memory .entry))) ⌝ }
+{
+    let s = stripe_of(g, load, tier);
+    blank_drives(memory, s.place, s.size, s.drives);
+    blank_drives(area, s.first, s.size, s.drives);
+}
