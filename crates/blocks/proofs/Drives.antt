@@ -15,7 +15,7 @@ use Rattle.algebra.proofs.Search.{le-or-lt}
 use Rattle.moving.proofs.Bytes.{copied-ext, copied-none, each-each, getD-copied, length-copied}
 use Rattle.moving.specs.Bytes.{copied}
 use Rattle.moving.proofs.Laid.{by-run, within-after, within-before, within-in}
-use Rattle.stripes.proofs.Parts.{back-each}
+use Rattle.bytes.proofs.Parts.{back-each}
 use Rattle.blocks.specs.Places.{blockPlace, drivePlace, every, inBlock, onDrives, placeBy}
 use Rattle.moving.specs.Laid.{within}
 

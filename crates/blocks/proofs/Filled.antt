@@ -12,7 +12,7 @@ use lib.ListN.{length, getD}
 use Rattle.moving.proofs.Bytes.{copied-none, each-each, each-ext}
 use Rattle.moving.specs.Bytes.{copied}
 use Rattle.moving.proofs.Laid.{by-run, within-after, within-before, within-in}
-use Rattle.stripes.proofs.Parts.{getD-part, length-part, part}
+use Rattle.bytes.proofs.Parts.{getD-part, length-part, part}
 use Rattle.blocks.specs.Places.{every}
 use Rattle.moving.specs.Laid.{laid, within}
 

@@ -4,7 +4,7 @@ ghost use Prim.Native.Nat.{ℕ, _+_, _*_, _≤_, _<_};
 ghost use lib.ListN.{length};
 ghost use Rattle.moving.specs.Bytes.{copied};
 ghost use Rattle.blocks.specs.Places.{every, flips, placeBy};
-use stripes::bytes::copy_part;
+use bytes::copy_part;
 
 // What a place changes by from number k to number k + 1: the carry walks up the columns.
 pub(crate) fn flip(columns: &[u32], k: usize) -> u32

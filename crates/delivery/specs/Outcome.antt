@@ -28,16 +28,18 @@ pub record Outcome : Type 1 where
   -- refused, it shows why, as every call does of the order that the text is; a text that is no order's has no z either
   pub shows : (text : List ℕ) (blanks : Bool) (v : Buffers) (k : ℕ) (z : Address) (w : Buffers) → DeliveryPromise text blanks v (Refused k z) w
       → (g : Geometry) (written : Order) → Inside text g → Whole text g written → GoesWith written k (z .0)
-  pub else-0 : (text : List ℕ) (blanks : Bool) (v : Buffers) (k : ℕ) (z : Address) (w : Buffers) → DeliveryPromise text blanks v (Refused k z) w → (k ≡ 3 → ⊥) → z .0 ≡ 0
+  pub else-0 : (text : List ℕ) (blanks : Bool) (v : Buffers) (k : ℕ) (z : Address) (w : Buffers) → DeliveryPromise text blanks v (Refused k z) w
+      → (k ≡ 3 → ⊥) → z .0 ≡ 0
   -- so another site, whichever mover it has and whichever call it makes, is given the same z with the same number
-  pub agrees : (M : Mover) → Explains M → (text : List ℕ) (blanks : Bool) (v : Buffers) (k : ℕ) (z : Address) (w : Buffers) → DeliveryPromise text blanks v (Refused k z) w
+  pub agrees : (M : Mover) → Explains M → (text : List ℕ) (blanks : Bool) (v : Buffers) (k : ℕ) (z : Address) (w : Buffers)
+      → DeliveryPromise text blanks v (Refused k z) w
       → (g : Geometry) (written : Order) → Inside text g → Whole text g written → (z′ : ℕ) → Gives M written k z′ → z .0 ≡ z′
   -- an accepted order sets a run of N·R bytes in one order only
   pub one-order : (order : Order) → length (order .rows) ≡ ROWS → judgement order ≡ 0 → (before after after′ : List ℕ)
       → length before ≡ areaBytes (order .geometry) → InTrayOrder order before after → InTrayOrder order before after′ → after ≡ after′
   -- an order that leaves every record where it is leaves every lent byte as it was, whatever is answered
-  pub untouched : (text : List ℕ) (order : Order) → Reads text 0 order 0 → StillOrder order → (blanks : Bool) (v : Buffers) (answer : Delivery) (w : Buffers)
-      → DeliveryPromise text blanks v answer w → w ≡ v
+  pub untouched : (text : List ℕ) (order : Order) → Reads text 0 order 0 → StillOrder order
+      → (blanks : Bool) (v : Buffers) (answer : Delivery) (w : Buffers) → DeliveryPromise text blanks v answer w → w ≡ v
   -- any other order, where the spent area is to be blanked, leaves the spare area and memory zero in every byte that the run took of them
   pub blanked : (text : List ℕ) (order : Order) → Reads text 0 order 0 → (StillOrder order → ⊥) → (v : Buffers) (w : Buffers)
       → DeliveryPromise text true v Done w

@@ -1,6 +1,4 @@
 // A run is set in tray order on lent bytes: its order text is read, planned, and every step of the plan sent.
-pub mod look; // look.rt: is every byte zero?
-
 ghost use mathlib.Core.Path.{_≡_};
 ghost use mathlib.Core.Bool.{true};
 ghost use lib.ListN.{length};
@@ -13,14 +11,14 @@ use bank::Address;
 use bank::Geometry;
 use bank::power;
 use bank::wide;
+use bytes::clear;
+use bytes::copy_into;
 use order::Order;
 use plan::make::plan_for;
 use reading::read_order;
 use running::result_area;
 use sending::progress::Progress;
 use sending::send_all;
-use stripes::bytes::clear;
-use stripes::bytes::copy_into;
 
 // Done; refused by a number, and z with 3, 0 with every other; or the run, of so many bytes, has no room in the buffers.
 pub enum Delivery {

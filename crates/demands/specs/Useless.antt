@@ -41,8 +41,8 @@ use Rattle.demands.specs.Shows.{Explains}
 use Rattle.demands.specs.Still.{CostsNothing}
 
 -- ours but for these; a question backwards is answered as ours is
-abbrev altered : (Order → Verdict) → (Order → ℕ → Target) → (Order → Bool → Planned) → (Plan → ℕ) → (Plan → ℕ) → State → StepRule → RunRule
-    → (List ℕ → ℕ → Order → ℕ → Type 0) → (Plan → List ℕ → ℕ) → (Plan → List ℕ → List ℕ) → Mover
+abbrev altered : (Order → Verdict) → (Order → ℕ → Target) → (Order → Bool → Planned) → (Plan → ℕ) → (Plan → ℕ)
+    → State → StepRule → RunRule → (List ℕ → ℕ → Order → ℕ → Type 0) → (Plan → List ℕ → ℕ) → (Plan → List ℕ → List ℕ) → Mover
 altered judges sends plans total area fresh step run reads lists leaves =
     record {
       judges = judges;

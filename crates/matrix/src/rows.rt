@@ -11,7 +11,7 @@ use crate::vector::sum;
 use bank::ROWS;
 
 // The rows from..to applied to x.
-pub(crate) fn apply_part(rows: &[u32; ROWS], from: usize, to: usize, x: u32) -> u32
+pub fn apply_part(rows: &[u32; ROWS], from: usize, to: usize, x: u32) -> u32
     requires { ⌜ (from ≤ to) × (to ≤ ROWS) ⌝ }
     ensures { λ r. ⌜ r ≡ applied (take (to - from) (drop from (now (rows .entry)))) x ⌝ }
 {

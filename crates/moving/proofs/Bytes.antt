@@ -30,7 +30,7 @@ getD-from f k (x ∷ xs) zero h = ap (λ (n : ℕ). f n x) (omega arith)
 getD-from f k (x ∷ xs) (suc i) h =
     getD-from f (suc k) xs i (le-of-suc-le-suc h) ∙ ap (λ (n : ℕ). f n (getD xs i 0)) (omega arith)
 
-getD-each : (f : ℕ → ℕ → ℕ) (l : List ℕ) (i : ℕ) → i < length l → getD (each f l) i 0 ≡ f i (getD l i 0)
+pub getD-each : (f : ℕ → ℕ → ℕ) (l : List ℕ) (i : ℕ) → i < length l → getD (each f l) i 0 ≡ f i (getD l i 0)
 unfolding each
 getD-each f l i h = getD-from f zero l i h ∙ ap (λ (n : ℕ). f n (getD l i 0)) (zero-add i)
 

@@ -17,8 +17,8 @@ use Rattle.algebra.specs.Matrix.{kernel, target, source, singular}
 use Rattle.algebra.specs.Vector.{WORD}
 use Rattle.algebra.proofs.Inverse.{target-lt}
 use Rattle.algebra.proofs.Singular.{kernel-tells}
-use Rattle.matrix.specs.Solved.{solvedFor}
-use Rattle.matrix.specs.declared.questions.Solved.{Solved}
+use Rattle.elimination.specs.Solved.{solvedFor}
+use Rattle.elimination.specs.declared.questions.Solved.{Solved}
 use Rattle.order.specs.Order.{matrixOf, formNumber, judgement, verdict, withZ, zWith}
 use Rattle.order.specs.Address.{questionNumber, sentTo, targetOf, meaningOf, foundFor}
 use Rattle.order.proofs.Judged.{formed-z, z-other, or-later-none, or-later-refuse, or-later-stops, form-none, judgement-form, judgement-formed, refuse-none}

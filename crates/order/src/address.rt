@@ -73,7 +73,7 @@ pub fn source_of(order: Order, y: Address) -> Source
     let rows = order.rows;
     let size = bank::power(g.n);
     let low = (y.0 % size) as u32;
-    let solved = matrix::questions::solve(&rows, g.n as usize, order.complement, low);
+    let solved = elimination::questions::solve(&rows, g.n as usize, order.complement, low);
     let z = solved.kernel;
     let number = refuse(z != 0, 3, refuse(size <= y.0, 10, 0));
     if number != 0 {

@@ -72,7 +72,7 @@ pub fn judge(order: Order) -> Verdict
         };
     }
     let rows = order.rows;
-    let z = matrix::questions::kernel(&rows, order.geometry.n as usize);
+    let z = elimination::questions::kernel(&rows, order.geometry.n as usize);
     Verdict {
         number: refuse(z != 0, 3, 0),
         z: Address(bank::wide(z)),

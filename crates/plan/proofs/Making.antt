@@ -31,8 +31,8 @@ use Rattle.planning.proofs.Round.{next-nonzero, next-ready}
 use Rattle.planning.proofs.Rounds.{Good, busy-some, complemented-more, round-good, rounds-go, rounds-good, rounds-length, rounds-stop}
 use Rattle.planning.proofs.Run.{first-length, moved-nonzero, moved-ready}
 use Rattle.planning.proofs.Step2.{operations-length, operations-inverse}
-use Rattle.planner.proofs.Products.{take-front}
 use Rattle.planner.proofs.Steps.{held-take}
+use Rattle.rounds.proofs.Products.{take-front}
 use Rattle.plan.specs.Store.{withPass}
 use Rattle.plan.proofs.Storing.{stored-more}
 use Rattle.planning.specs.Inner.{RoundReady}

@@ -23,9 +23,9 @@ use matrix::rows::is_identity;
 use matrix::rows::product;
 use order::Order;
 use planner::operations::operate;
-use planner::rounds::is_busy;
-use planner::rounds::round;
 use planning::Plan;
+use rounds::is_busy;
+use rounds::round;
 
 // The number of a planning call, and its plan: the empty plan where refused. With 3, z; 0 with every other number.
 pub struct Planned {

@@ -1,10 +1,6 @@
 pub mod Lower
-pub mod Products
 pub mod Masks
 pub mod Marked
 pub mod Followed
 pub mod Pairs
 pub mod Steps
-pub mod Places
-pub mod Swapping
-pub mod Erasing

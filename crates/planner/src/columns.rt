@@ -22,7 +22,7 @@ fn lowered(cols: [u32; ROWS], from: usize, to: usize, m: usize) -> [u32; ROWS]
 }
 
 // The lower part of columns from..to: each without its low m bits. The places after them hold zero.
-pub(crate) fn lower(cols: &[u32; ROWS], from: usize, to: usize, m: usize) -> [u32; ROWS]
+pub fn lower(cols: &[u32; ROWS], from: usize, to: usize, m: usize) -> [u32; ROWS]
     requires { ⌜ (from ≤ to) × (to ≤ ROWS) × (m < WORD) ⌝ }
     ensures { λ r. ⌜ r ≡ map (λ v. v / 2 ^ m) (take (to - from) (drop from (now (cols .entry)))) ++ replicate (ROWS - (to - from)) 0 ⌝ }
 {

@@ -103,7 +103,7 @@ pub fn read_order(text: &[u8]) -> Read
     let order = read.order;
     let list = order.rows;
     let n = g.n as usize;
-    let z = matrix::questions::kernel(&list, n);
+    let z = elimination::questions::kernel(&list, n);
     if z != 0 {
         return refused(3, Address(bank::wide(z)));
     }

@@ -99,7 +99,7 @@ fn singular_passes(rows: &[u32; PLACES], count: usize, n: usize) -> bool
     let mut p = 0;
     while p < count {
         let part = pass_rows(rows, p);
-        if matrix::questions::is_singular(&part, n) {
+        if elimination::questions::is_singular(&part, n) {
             return true;
         }
         p += 1;
@@ -115,7 +115,7 @@ fn spilling_passes(rows: &[u32; PLACES], count: usize, n: usize, b: usize, m: us
     let mut p = 0;
     while p < count {
         let part = pass_rows(rows, p);
-        if matrix::questions::spills(&part, n, b, m) {
+        if elimination::questions::spills(&part, n, b, m) {
             return true;
         }
         p += 1;

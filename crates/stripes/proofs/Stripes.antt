@@ -14,6 +14,7 @@ use Rattle.moving.proofs.Numbers.{memory-is, records-is}
 use Rattle.moving.specs.Bytes.{copied, zeroed}
 use Rattle.moving.specs.Step.{blankTakes, readFrom, readTakes}
 use Rattle.tables.proofs.Sizes.{memory-fit, records-fit, start-lt}
+use Rattle.bytes.proofs.Parts.{laid-cleared}
 use Rattle.stripes.specs.Stripe.{ReadReady, stripeOf}
 use Rattle.stripes.specs.declared.stripe.Stripe.{Stripe}
 use Rattle.moving.specs.Laid.{cleared, laid}
@@ -89,9 +90,12 @@ module _ {g : Geometry} {load tier : ℕ} {area mem : List ℕ} (k : ReadReady g
       ∙ ap (laid mem (tier * stripeBytes g) (stripeBytes g) area) first-at
       ∙ sym (read-laid g ok tier mem (k .memory-long) load area)
 
-  -- a blank's part of the area, and of memory
-  pub area-blanked : cleared area (s .first .0 * s .size) (s .drives * s .size) ≡ zeroed (blankTakes g load tier) (g .r) area
-  area-blanked = ap₂ (cleared area) first-at stripe-size ∙ sym (blank-area g ok tier load (k .tier-in) area)
-
+  -- a blank's part of memory, and of the area, which takes it from there
   pub memory-blanked : cleared mem (s .place .0 * s .size) (s .drives * s .size) ≡ zeroed (readTakes g tier) (g .r) mem
   memory-blanked = ap₂ (cleared mem) place-at stripe-size ∙ sym (blank-memory g ok tier mem (k .memory-long))
+
+  pub area-blanked : laid area (s .first .0 * s .size) (s .drives * s .size) (cleared mem (s .place .0 * s .size) (s .drives * s .size)) (s .place .0 * s .size)
+      ≡ zeroed (blankTakes g load tier) (g .r) area
+  area-blanked =
+      laid-cleared area mem (s .first .0 * s .size) (s .drives * s .size) (s .place .0 * s .size) read-memory
+      ∙ ap₂ (cleared area) first-at stripe-size ∙ sym (blank-area g ok tier load (k .tier-in) area)

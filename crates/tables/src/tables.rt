@@ -20,7 +20,7 @@ use bank::Block;
 use bank::Geometry;
 use bank::ROWS;
 use bank::power;
-use matrix::questions::inverse_columns;
+use elimination::questions::inverse_columns;
 use matrix::rows::apply;
 use matrix::vector::sum;
 use plan::store::pass_rows;

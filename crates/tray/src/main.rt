@@ -6,9 +6,9 @@ mod call; // call.rt: the words of the call
 
 use crate::call::Asked;
 use crate::call::read_call;
+use bytes::look::all_zero;
 use delivery::Delivery;
 use delivery::deliver;
-use delivery::look::all_zero;
 use libc::STDERR_FILENO;
 use libc::STDIN_FILENO;
 use libc::STDOUT_FILENO;

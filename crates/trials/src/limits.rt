@@ -2,17 +2,20 @@
 use crate::orders;
 use crate::plans;
 use crate::say;
-use crate::steps;
 use bank::Geometry;
 use bank::PLACES;
 use bank::ROWS;
 use bank::Step;
 use matrix::rows::identity;
+use mover::run::run;
+use mover::step::Stepped;
+use mover::step::step;
 use order::Order;
 use planning::Plan;
 use planning::state::State;
 use running::can_run;
 use running::total_steps;
+use trial::geometry;
 
 // The last address of a bank with n = 32, and one more.
 pub(crate) const LAST: u64 = 4294967295;
@@ -22,7 +25,7 @@ pub(crate) const SIZE: u64 = 4294967296;
 // An order with n = 32.
 fn order(rows: [u32; ROWS], b: u32, d: u32, m: u32, r: u32) -> Order {
     Order {
-        geometry: orders::geometry(32, b, d, m, r),
+        geometry: geometry(32, b, d, m, r),
         rows: rows,
         complement: 4294967295,
     }
@@ -117,7 +120,7 @@ fn sizes(count: u32) -> u64 {
     let mut found = 0u64;
     let mut n = 2u32;
     while n <= ROWS as u32 {
-        let p = still(orders::geometry(n, 0, 0, 1, 1), count);
+        let p = still(geometry(n, 0, 0, 1, 1), count);
         if can_run(p, State::fresh()) {
             found = found % 1000000 + 1;
         }
@@ -137,7 +140,7 @@ pub(crate) fn counts() {
 
 // The longest run: 17 passes of 2^33 steps.
 pub(crate) fn totals() {
-    let p = still(orders::geometry(32, 0, 0, 1, 256), 17);
+    let p = still(geometry(32, 0, 0, 1, 256), 17);
     let total = 146028888064;
     say::one(b"n = 32, 17 passes, the total", total_steps(p));
     plans::runs(b"next 2^32", p, SIZE);
@@ -147,30 +150,25 @@ pub(crate) fn totals() {
     plans::runs(b"next 2^64 - 1", p, 18446744073709551615);
 }
 
-// A step and a run from a state, with no bytes lent.
+// A step and a run from a state, with no bytes lent: both are refused.
 fn short(asked: &[u8], p: Plan, next: u64, k: u64) {
     let mut area0 = [0u8; 0];
     let mut area1 = [0u8; 0];
     let mut memory = [0u8; 0];
     let s = State { next: Step(next) };
-    steps::ask(asked, p, s, k, &mut area0, &mut area1, &mut memory);
-    steps::go(
-        b"and a run",
-        p,
-        s,
-        LAST,
-        &mut area0,
-        &mut area1,
-        &mut memory,
-    );
+    let r = step(p, s, Step(k), &mut area0, &mut area1, &mut memory);
+    if let Stepped::Refused(number, _) = r {
+        say::one(asked, number as u64);
+    }
+    let ran = run(p, s, LAST, &mut area0, &mut area1, &mut memory);
+    say::three(b"and a run", ran.number as u64, ran.count, ran.state.next.0);
 }
 
 // Areas of 2^40 bytes and a memory of 2^39, or areas of 2^32: in 32 bits each is 0, and so are buffers of no bytes.
 pub(crate) fn lengths() {
-    let p = still(orders::geometry(32, 0, 0, 31, 256), 2);
-    let q = still(orders::geometry(32, 0, 0, 1, 1), 2);
+    let p = still(geometry(32, 0, 0, 31, 256), 2);
+    let q = still(geometry(32, 0, 0, 1, 1), 2);
     let total = 4 * SIZE;
-    steps::lent(b"areas of 2^40 bytes, a few lent", p, 0, 128, 128, 32);
     short(b"areas of 2^40 bytes, none lent", p, 0, 0);
     short(b"areas of 2^32 bytes, none lent", q, 0, 0);
     short(b"at step 2^32 + 1, asked 0, none lent", p, SIZE + 1, 0);

@@ -1,9 +1,8 @@
-// Runs the trial orders and writes what the calls answer, a line for each; the file stdout has what they must be.
+// Asks about the trial orders and their plans, and writes what the calls answer, a line for each; the file stdout has what they must be.
 mod say; // say.rt: a line of output
 mod orders; // orders.rt: geometry, form and addresses
 mod plans; // plans.rt: plans made, and plans judged
 mod why; // why.rt: why an order is singular
-mod steps; // steps.rt: steps and runs on lent bytes
 mod still; // still.rt: an order that leaves every record where it is
 mod blanks; // blanks.rt: plans that blank the spent area
 mod limits; // limits.rt: what is tried at the limits
@@ -19,18 +18,9 @@ fn main() {
     plans::judged();
     plans::judged_more();
     plans::spilling();
-    steps::one_write();
-    steps::in_turn();
-    steps::lengths();
-    steps::wholes();
     still::planned();
-    still::asked();
-    still::runs();
     blanks::planned();
     blanks::judged();
-    blanks::one_blank();
-    blanks::in_parts();
-    blanks::wholes();
     limits::words();
     limits::made();
     limits::counts();

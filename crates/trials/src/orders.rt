@@ -1,65 +1,20 @@
 // The trial orders on geometry, form and addresses.
 use crate::say;
 use bank::Address;
-use bank::Geometry;
-use bank::ROWS;
 use order::Order;
 use order::address::Source;
 use order::address::source_of;
 use order::address::target_of;
-
-// G of the trial orders.
-pub(crate) fn g() -> Geometry {
-    geometry(4, 1, 1, 2, 8)
-}
-
-pub(crate) fn geometry(n: u32, b: u32, d: u32, m: u32, r: u32) -> Geometry {
-    Geometry { n, b, d, m, r }
-}
-
-// An order with four rows.
-pub(crate) fn order(g: Geometry, r0: u32, r1: u32, r2: u32, r3: u32, c: u32) -> Order {
-    let mut rows = [0u32; ROWS];
-    rows[0] = r0;
-    rows[1] = r1;
-    rows[2] = r2;
-    rows[3] = r3;
-    Order {
-        geometry: g,
-        rows: rows,
-        complement: c,
-    }
-}
-
-pub(crate) fn reversal() -> Order {
-    order(g(), 8, 4, 2, 1, 0)
-}
-
-pub(crate) fn identity(c: u32) -> Order {
-    order(g(), 1, 2, 4, 8, c)
-}
-
-pub(crate) fn gray() -> Order {
-    order(g(), 3, 6, 12, 8, 0)
-}
-
-pub(crate) fn exchange() -> Order {
-    order(g(), 4, 8, 1, 2, 0)
-}
-
-pub(crate) fn small() -> Order {
-    order(geometry(2, 0, 0, 1, 8), 2, 1, 0, 0, 0)
-}
-
-// The identity of as many rows as there is room for.
-pub(crate) fn largest(n: u32, r: u32) -> Order {
-    let rows = matrix::rows::identity(ROWS);
-    Order {
-        geometry: geometry(n, 6, 2, 14, r),
-        rows: rows,
-        complement: 0,
-    }
-}
+use trial::exchange;
+use trial::geometry;
+use trial::gray;
+use trial::identity;
+use trial::in_g;
+use trial::largest;
+use trial::order;
+use trial::reversal;
+use trial::small;
+use trial::two_rows;
 
 // Number, target and z.
 pub(crate) fn forward(asked: &[u8], o: Order, x: u64) {
@@ -114,7 +69,7 @@ pub(crate) fn geometries() {
 }
 
 pub(crate) fn forms() {
-    judged(b"G, a row of 16", order(g(), 16, 2, 4, 8, 0));
+    judged(b"G, a row of 16", in_g(16, 2, 4, 8, 0));
     judged(b"G, c = 16", identity(16));
     judged(
         b"n = 2, a row place beyond n",
@@ -124,16 +79,10 @@ pub(crate) fn forms() {
         b"bad geometry, singular",
         order(geometry(4, 2, 0, 2, 8), 0, 0, 0, 0, 0),
     );
-    judged(b"a row of 16, singular", order(g(), 16, 0, 0, 0, 0));
-    judged(
-        b"n = 2, rows 11, 11",
-        order(geometry(2, 0, 0, 1, 8), 3, 3, 0, 0, 0),
-    );
-    judged(
-        b"n = 2, zero rows",
-        order(geometry(2, 0, 0, 1, 8), 0, 0, 0, 0, 0),
-    );
-    judged(b"G, rows 3, 5, 6, 8", order(g(), 3, 5, 6, 8, 0));
+    judged(b"a row of 16, singular", in_g(16, 0, 0, 0, 0));
+    judged(b"n = 2, rows 11, 11", two_rows(3, 3));
+    judged(b"n = 2, zero rows", two_rows(0, 0));
+    judged(b"G, rows 3, 5, 6, 8", in_g(3, 5, 6, 8, 0));
 }
 
 pub(crate) fn forwards() {
@@ -146,7 +95,7 @@ pub(crate) fn forwards() {
     forward(b"n = 2, 01 10, 1", small(), 1);
     forward(b"reversal, address N", reversal(), 16);
     forward(b"reversal, address 2^32 + 1", reversal(), 4294967297);
-    forward(b"singular, address N", order(g(), 0, 0, 0, 0, 0), 16);
+    forward(b"singular, address N", in_g(0, 0, 0, 0, 0), 16);
     forward(
         b"b = m, address N",
         order(geometry(4, 2, 0, 2, 8), 1, 2, 4, 8, 0),
@@ -163,12 +112,8 @@ pub(crate) fn backwards() {
     backward(b"0010 0001 1000 0100, back from 4", exchange(), 4);
     backward(b"n = 2, 01 10, back from 2", small(), 2);
     backward(b"reversal, back from N", reversal(), 16);
-    backward(b"singular, back from N", order(g(), 0, 0, 0, 0, 0), 16);
-    backward(
-        b"G, a row of 16, back from N",
-        order(g(), 16, 2, 4, 8, 0),
-        16,
-    );
+    backward(b"singular, back from N", in_g(0, 0, 0, 0, 0), 16);
+    backward(b"G, a row of 16, back from N", in_g(16, 2, 4, 8, 0), 16);
     backward(
         b"m = n, back from 1",
         order(geometry(4, 1, 1, 4, 8), 1, 2, 4, 8, 0),

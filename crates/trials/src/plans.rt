@@ -1,5 +1,4 @@
 // The trial orders on plans: what is planned, and which plans can run.
-use crate::orders;
 use crate::say;
 use bank::Step;
 use order::Order;
@@ -46,29 +45,23 @@ fn row(asked: &[u8], p: Plan, at: usize) {
 }
 
 fn reversal() -> Plan {
-    let p = make_plan(orders::reversal(), false);
+    let p = make_plan(trial::reversal(), false);
     p.plan
 }
 
 pub(crate) fn made() {
-    planned(b"reversal", orders::reversal());
-    planned(b"identity, c = 15", orders::identity(15));
-    planned(b"identity", orders::identity(0));
-    planned(b"Gray code", orders::gray());
-    planned(b"0010 0001 1000 0100", orders::exchange());
-    planned(b"n = 2, 01 10", orders::small());
-    planned(
-        b"n = 2, rows 11, 11",
-        orders::order(orders::geometry(2, 0, 0, 1, 8), 3, 3, 0, 0, 0),
-    );
+    planned(b"reversal", trial::reversal());
+    planned(b"identity, c = 15", trial::identity(15));
+    planned(b"identity", trial::identity(0));
+    planned(b"Gray code", trial::gray());
+    planned(b"0010 0001 1000 0100", trial::exchange());
+    planned(b"n = 2, 01 10", trial::small());
+    planned(b"n = 2, rows 11, 11", trial::two_rows(3, 3));
     planned(
         b"b = m",
-        orders::order(orders::geometry(4, 2, 0, 2, 8), 8, 4, 2, 1, 0),
+        trial::order(trial::geometry(4, 2, 0, 2, 8), 8, 4, 2, 1, 0),
     );
-    planned(
-        b"G, a row of 16",
-        orders::order(orders::g(), 16, 2, 4, 8, 0),
-    );
+    planned(b"G, a row of 16", trial::in_g(16, 2, 4, 8, 0));
     let p = reversal();
     row(b"reversal, pass 0, row 0", p, 0);
     row(b"reversal, pass 0, row 1", p, 1);
@@ -126,7 +119,7 @@ pub(crate) fn judged_more() {
 // The reversal as one pass: nonsingular, and it spills.
 pub(crate) fn spilling() {
     let mut p = plan::store::empty_plan();
-    p.geometry = orders::g();
+    p.geometry = trial::geometry(4, 1, 1, 2, 8);
     p.count = 1;
     p.rows[0] = 8;
     p.rows[1] = 4;

@@ -7,6 +7,8 @@ use bank::Geometry;
 use bank::ROWS;
 use matrix::rows::identity;
 use order::Order;
+use trial::in_g;
+use trial::two_rows;
 
 // What is said of an order, and of an address asked both ways.
 fn shown(asked: &[u8], o: Order, x: u64) {
@@ -16,24 +18,16 @@ fn shown(asked: &[u8], o: Order, x: u64) {
     plans::planned(b"  planning", o);
 }
 
-fn two(r0: u32, r1: u32) -> Order {
-    orders::order(orders::geometry(2, 0, 0, 1, 8), r0, r1, 0, 0, 0)
-}
-
-fn four(r0: u32, r1: u32, r2: u32, r3: u32, c: u32) -> Order {
-    orders::order(orders::g(), r0, r1, r2, r3, c)
-}
-
 // Small ones, asked at 0, at another address, and at N.
 pub(crate) fn small() {
-    shown(b"n = 2, rows 11, 11", two(3, 3), 0);
-    shown(b"n = 2, zero rows", two(0, 0), 4);
-    shown(b"three rows that sum to zero", four(3, 5, 6, 8, 9), 16);
-    shown(b"0100 0010 0001 0000", four(2, 4, 8, 0, 0), 5);
-    shown(b"0000 1000 0100 0010", four(0, 1, 2, 4, 0), 5);
-    shown(b"1100 0011 and zero rows", four(3, 12, 0, 0, 15), 16);
-    shown(b"a zero column", four(1, 2, 4, 1, 0), 1);
-    shown(b"G, a row of 16, singular", four(16, 3, 3, 3, 0), 0);
+    shown(b"n = 2, rows 11, 11", two_rows(3, 3), 0);
+    shown(b"n = 2, zero rows", two_rows(0, 0), 4);
+    shown(b"three rows that sum to zero", in_g(3, 5, 6, 8, 9), 16);
+    shown(b"0100 0010 0001 0000", in_g(2, 4, 8, 0, 0), 5);
+    shown(b"0000 1000 0100 0010", in_g(0, 1, 2, 4, 0), 5);
+    shown(b"1100 0011 and zero rows", in_g(3, 12, 0, 0, 15), 16);
+    shown(b"a zero column", in_g(1, 2, 4, 1, 0), 1);
+    shown(b"G, a row of 16, singular", in_g(16, 3, 3, 3, 0), 0);
 }
 
 // An order of ROWS rows.

@@ -4,7 +4,7 @@ use Prim.Native.Nat.{ℕ, _+_, _-_, _*_}
 use native.Mathlib.Omega.{arith}
 use lib.ListN.{length}
 use Rattle.blocks.proofs.Drives.{block-back, pos-right}
-use Rattle.stripes.proofs.Parts.{length-part, part}
+use Rattle.bytes.proofs.Parts.{length-part, part}
 use Rattle.blocks.specs.Places.{placeBy}
 use borrow.Author.Needs.{needs}
 use Rattle.blocks.proofs.moves.write_block.Statement.{statement}

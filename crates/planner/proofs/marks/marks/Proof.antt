@@ -11,7 +11,7 @@ use Rattle.algebra.specs.Elimination.{built}
 use Rattle.algebra.specs.Matrix.{marked}
 use Rattle.algebra.specs.Vector.{WORD, unlessZero}
 use Rattle.algebra.proofs.Built.{built-count, built-next}
-use Rattle.matrix.specs.Echelon.{echelonOf}
+use Rattle.elimination.specs.Echelon.{echelonOf}
 use Rattle.planner.specs.Marks.{maskOf}
 use Rattle.planner.proofs.Marked.{left-marked}
 use Rattle.planner.proofs.Masks.{mask-next}

@@ -10,7 +10,7 @@ use Rattle.bank.specs.Limits.{ROWS}
 use Rattle.algebra.specs.Vector.{unlessZero}
 use Rattle.algebra.proofs.Built.{built-count}
 use Rattle.matrix.proofs.Filled.{filled, filled-all, filled-next}
-use Rattle.matrix.specs.Echelon.{echelonOf}
+use Rattle.elimination.specs.Echelon.{echelonOf}
 use Rattle.planning.specs.Making.{step2}
 use Rattle.planner.proofs.Steps.{step2-code, step2-length}
 use Rattle.planner.proofs.operations.step2.Statement.{statement}

@@ -14,8 +14,8 @@ mul-at c =
     let s = start (c .before) in
     record { fits = rw (c .before .stripe-of .ensures) (omega (arith, read-memory (s .pre), s .good)) }
 
-read-drives-requires : tie.Need-read-drives-requires
-read-drives-requires c κs =
+lay-drives-requires : tie.Need-lay-drives-requires
+lay-drives-requires c κs =
     let s = c .before .before in
     let k = start s .pre in
     rw (s .stripe-of .ensures) (read-memory k, read-area k, size-pos k)
@@ -23,7 +23,7 @@ read-drives-requires c κs =
 returns : tie.Need-returns
 returns c =
     let s = c .before .before .before .before .before in
-    c .before .before .read-drives .ensures ∙ rw (s .stripe-of .ensures) (read-is (start s .pre))
+    c .before .before .lay-drives .ensures ∙ rw (s .stripe-of .ensures) (read-is (start s .pre))
 
 pub read-step-spec : {M : Type 1} → statement M
-read-step-spec = tie.close (tie.spec (λ c κs. search needs) mul-at read-drives-requires (λ c. search needs) returns)
+read-step-spec = tie.close (tie.spec (λ c κs. search needs) mul-at lay-drives-requires (λ c. search needs) returns)

@@ -1,0 +1,2 @@
+-- The orders that are tried.
+pub mod Orders
