@@ -12,7 +12,7 @@ use lib.Dec.{eqb}
 use lib.Seq.{ext-getD}
 use borrow.Author.Tests.{eq-eqb, eqb-true, ne-eqb, not-false, not-true}
 use Rattle.algebra.proofs.Digits.{bits-same}
-use Rattle.algebra.proofs.Linear.{apply-bit, apply-lt, apply-zero, dot-comb, dot-unit, listed-units}
+use Rattle.algebra.proofs.Linear.{apply-bit, apply-lt, apply-zero, comb-lt, comb-one, dot-comb, dot-unit, listed-units}
 use Rattle.algebra.proofs.Listed.{listed-at, listed-length}
 use Rattle.algebra.proofs.Search.{any-intro, none-elim, none-intro}
 use Rattle.algebra.specs.Matrix.{applied, columns, identity, isIdentity}
@@ -96,6 +96,16 @@ apply-transpose cols m x h =
     rows-give m (columns m cols) x (comb cols x) (columns-length m cols) h
     (λ i l. ap (λ (r : ℕ). parity (bitAnd r x)) (columns-at m cols i l) ∙ ap parity (and-comm (applied cols (2 ^ i)) x)
     ∙ sym (dot-comb cols x (2 ^ i)) ∙ ap parity (and-comm (comb cols x) (2 ^ i)) ∙ dot-unit i (comb cols x))
+
+-- the columns of the columns are the rows
+pub columns-twice : (n : ℕ) (rows : List ℕ) → length rows ≡ n → ((i : ℕ) → i < n → getD rows i 0 < 2 ^ n) → columns n (columns n rows) ≡ rows
+columns-twice n rows long below =
+    let twice = columns-length n (columns n rows) in
+    ext-getD 0 (columns n (columns n rows)) rows (twice ∙ sym long)
+    (λ i h. let hi : i < n = omega arith in
+    columns-at n (columns n rows) i hi
+    ∙ apply-transpose rows n (2 ^ i) (comb-lt n rows (2 ^ i) (λ j l. below j (omega arith)))
+    ∙ comb-one rows i)
 
 -- ---- d of m unit vectors, from the b-th on
 pub part-units : (b d m j : ℕ) → b + d ≤ m → take d (drop b (unitVectors m j)) ≡ unitVectors d (j + b)

@@ -7,7 +7,8 @@ use native.Mathlib.Nat.{lt-of-lt-of-le, mod-lt, mul-le-mul-right, not-suc-le-zer
 use native.Mathlib.Omega.{arith}
 use lib.Arith.{bin-ind, digits-div, digits-mod, half-le, lt-of-le-ne, lt-one}
 use lib.Pow.{field, mod-mod-pow, pow-add, pow-lt, pow-mono, pow-pos, shl-lt, shl-shr, shr-lt, shr-shr, split}
-use lib.Bits.{and-comm, and-mod, and-shr, bitAnd, bitXor, shifted-even, shifted-half, xor-comm, xor-lt, xor-mod, xor-self, xor-shifted, xor-shr, xor-zero-r}
+use lib.Bits.{and-comm, and-mod, and-shr, bitAnd, bitOr, bitXor, or-mod, or-shr, shifted-even, shifted-half}
+use lib.Bits.{xor-comm, xor-lt, xor-mod, xor-self, xor-shifted, xor-shr, xor-zero-r}
 use lib.Count.{ones, ones-step}
 use mathlib.Core.Logic.{_⊎_, inl, inr, ⊎-elim}
 use lib.Dec.{lit<}
@@ -56,19 +57,35 @@ on-digits P a b c d e f g h x y z hx hy hz =
     (bit-cases (λ (y : ℕ). P 1 y z) (bit-cases (λ (z : ℕ). P 1 0 z) e f z hz) (bit-cases (λ (z : ℕ). P 1 1 z) g h z hz) y hy)
     x hx
 
--- ---- xor
+-- an operation of two numbers that works digit by digit
+record Bitwise (f : ℕ → ℕ → ℕ) : Type 0 where
+  pub half : (a b : ℕ) → f a b / 2 ≡ f (a / 2) (b / 2)
+  pub odd : (a b : ℕ) → f a b % 2 ≡ f (a % 2) (b % 2)
+
+-- such an operation is associative where it is so on digits
+bitwise-assoc : (f : ℕ → ℕ → ℕ) → Bitwise f → ((x y z : ℕ) → x < 2 → y < 2 → z < 2 → f (f x y) z ≡ f x (f y z))
+    → (a b c : ℕ) → f (f a b) c ≡ f a (f b c)
+bitwise-assoc f h =
+    digitwise (λ a b c. f (f a b) c) (λ a b c. f a (f b c))
+    (record {
+      half = λ a b c. h .half (f a b) c ∙ ap (λ (x : ℕ). f x (c / 2)) (h .half a b);
+      odd = λ a b c. h .odd (f a b) c ∙ ap (λ (x : ℕ). f x (c % 2)) (h .odd a b);
+    })
+    (record {
+      half = λ a b c. h .half a (f b c) ∙ ap (f (a / 2)) (h .half b c);
+      odd = λ a b c. h .odd a (f b c) ∙ ap (f (a % 2)) (h .odd b c);
+    })
+
+-- ---- xor, or
 pub xor-assoc : (a b c : ℕ) → bitXor (bitXor a b) c ≡ bitXor a (bitXor b c)
 xor-assoc =
-    digitwise (λ a b c. bitXor (bitXor a b) c) (λ a b c. bitXor a (bitXor b c))
-    (record {
-      half = λ a b c. xor-shr (bitXor a b) c 1 ∙ ap (λ (x : ℕ). bitXor x (c / 2)) (xor-shr a b 1);
-      odd = λ a b c. xor-mod (bitXor a b) c 1 ∙ ap (λ (x : ℕ). bitXor x (c % 2)) (xor-mod a b 1);
-    })
-    (record {
-      half = λ a b c. xor-shr a (bitXor b c) 1 ∙ ap (bitXor (a / 2)) (xor-shr b c 1);
-      odd = λ a b c. xor-mod a (bitXor b c) 1 ∙ ap (bitXor (a % 2)) (xor-mod b c 1);
-    })
+    bitwise-assoc bitXor (record { half = λ a b. xor-shr a b 1; odd = λ a b. xor-mod a b 1 })
     (on-digits (λ a b c. bitXor (bitXor a b) c ≡ bitXor a (bitXor b c)) refl refl refl refl refl refl refl refl)
+
+pub or-assoc : (a b c : ℕ) → bitOr (bitOr a b) c ≡ bitOr a (bitOr b c)
+or-assoc =
+    bitwise-assoc bitOr (record { half = λ a b. or-shr a b 1; odd = λ a b. or-mod a b 1 })
+    (on-digits (λ a b c. bitOr (bitOr a b) c ≡ bitOr a (bitOr b c)) refl refl refl refl refl refl refl refl)
 
 and-xor : (a b c : ℕ) → bitAnd a (bitXor b c) ≡ bitXor (bitAnd a b) (bitAnd a c)
 and-xor =

@@ -17,4 +17,5 @@ pub mod Inverse
 pub mod Built
 pub mod Questions
 pub mod Loops
+pub mod Carry
 pub mod Examples

@@ -88,7 +88,7 @@ module _ (p : ℕ → Bool) where
   unfolding anyBelow
   none-intro n f = le-ltb (least p n) n (omega (arith, least-none n f))
 
-  found-lt : (n : ℕ) → anyBelow p n ≡ true → least p n < n
+  pub found-lt : (n : ℕ) → anyBelow p n ≡ true → least p n < n
   unfolding anyBelow
   found-lt n e = ltb-true (least p n) n e
 

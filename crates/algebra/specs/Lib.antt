@@ -3,4 +3,5 @@ pub mod Search
 pub mod Vector
 pub mod Matrix
 pub mod Elimination
+pub mod Carry
 pub mod Examples

@@ -16,7 +16,8 @@ use Rattle.moving.proofs.Bytes.{copied-ext, copied-none, each-each, getD-copied
 use Rattle.moving.specs.Bytes.{copied}
 use Rattle.moving.proofs.Laid.{by-run, within-after, within-before, within-in}
 use Rattle.bytes.proofs.Parts.{back-each}
-use Rattle.blocks.specs.Places.{blockPlace, drivePlace, every, inBlock, onDrives, placeBy}
+use Rattle.algebra.specs.Carry.{placeBy}
+use Rattle.blocks.specs.Places.{blockPlace, drivePlace, every, inBlock, onDrives}
 use Rattle.moving.specs.Laid.{within}
 
 -- r is positive where a * r is

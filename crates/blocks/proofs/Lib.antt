@@ -1,5 +1,4 @@
 -- The laws that belong to no one function.
-pub mod Places
 pub mod Filled
 pub mod Drives
 pub mod Writes

@@ -11,7 +11,7 @@ use Rattle.bank.specs.Limits.{PASSES}
 use Rattle.moving.proofs.Numbers.{pass-of-lt, pass-pos}
 use Rattle.moving.specs.Number.{loadOf, passOf, tierOf}
 use Rattle.moving.specs.Step.{Buffers, move, movesFrom, buffersFit}
-use Rattle.running.proofs.Judging.{few-phases, records-small, total-small}
+use Rattle.totals.proofs.Total.{few-phases, records-small, total-small}
 use Rattle.planning.proofs.Stored.{route-length}
 use Rattle.planning.specs.Pass.{Route, passSteps, phases, total}
 use Rattle.planning.specs.Stored.{routeOf}

@@ -19,7 +19,8 @@ use Rattle.moving.specs.Step.{writeFrom, writeTakes}
 use Rattle.planning.specs.Pass.{Pass}
 use Rattle.planning.specs.Inner.{PassRuns}
 use Rattle.tables.proofs.Columns.{all-columns, part-blocks, part-columns}
-use Rattle.blocks.specs.Places.{drivePlace, onDrives, placeBy}
+use Rattle.algebra.specs.Carry.{placeBy}
+use Rattle.blocks.specs.Places.{drivePlace, onDrives}
 use Rattle.blocks.specs.Moving.{WriteReady}
 use Rattle.tables.specs.Tables.{passFor}
 use Rattle.tables.specs.declared.tables.Tables.{Tables}

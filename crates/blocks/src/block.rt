@@ -3,26 +3,10 @@ ghost use mathlib.Core.Path.{_≡_};
 ghost use Prim.Native.Nat.{ℕ, _+_, _*_, _≤_, _<_};
 ghost use lib.ListN.{length};
 ghost use Rattle.moving.specs.Bytes.{copied};
-ghost use Rattle.blocks.specs.Places.{every, flips, placeBy};
+ghost use Rattle.algebra.specs.Carry.{placeBy};
+ghost use Rattle.blocks.specs.Places.{every};
 use bytes::copy_part;
-
-// What a place changes by from number k to number k + 1: the carry walks up the columns.
-pub(crate) fn flip(columns: &[u32], k: usize) -> u32
-    ensures { λ r. ⌜ r ≡ flips (now (columns .entry)) k ⌝ }
-{
-    let mut s: u32 = 0;
-    let mut x = k;
-    let mut j = 0;
-    while j < columns.len() {
-        s = s ^ columns[j];
-        if x % 2 == 0 {
-            return s;
-        }
-        x = x / 2;
-        j += 1;
-    }
-    s
-}
+use matrix::carry::flip;
 
 // Every record of the block from its place in memory: record k from the base and the columns that k picks.
 pub(crate) fn fill_block(

@@ -4,14 +4,15 @@ ghost use mathlib.Core.Path.{_≡_};
 ghost use Rattle.moving.specs.Step.{buffersOf};
 ghost use Rattle.moving.specs.Call.{lent};
 ghost use Rattle.demands.specs.Ours.{ours};
+use addresses::Source;
+use addresses::Target;
 use bank::Address;
 use bank::Step;
+use lists::Recognised;
 use mover::run::Ran;
 use mover::step::Stepped;
 use order::Order;
 use order::Verdict;
-use order::address::Source;
-use order::address::Target;
 use plan::make::Planned;
 use planning::Plan;
 use planning::state::State;
@@ -26,13 +27,19 @@ fn judge(order: Order) -> Verdict
 fn target_of(order: Order, x: Address) -> Target
     ensures { λ r. ⌜ r ≡ ours .sends order (x .0) ⌝ }
 {
-    order::address::target_of(order, x)
+    addresses::target_of(order, x)
 }
 
 fn source_of(order: Order, y: Address) -> Source
     ensures { λ r. ⌜ ours .finds order (y .0) r ⌝ }
 {
-    order::address::source_of(order, y)
+    addresses::source_of(order, y)
+}
+
+fn recognise(list: &[u64]) -> Recognised
+    ensures { λ r. ⌜ r ≡ ours .recognises (now (list .entry)) ⌝ }
+{
+    lists::recognise(list)
 }
 
 fn make_plan(order: Order, blanks: bool) -> Planned
@@ -44,13 +51,13 @@ fn make_plan(order: Order, blanks: bool) -> Planned
 fn total_steps(plan: Plan) -> u64
     ensures { λ r. ⌜ r ≡ ours .total plan ⌝ }
 {
-    running::total_steps(plan)
+    totals::total_steps(plan)
 }
 
 fn result_area(plan: Plan) -> u32
     ensures { λ r. ⌜ r ≡ ours .area plan ⌝ }
 {
-    running::result_area(plan)
+    totals::result_area(plan)
 }
 
 fn fresh() -> State

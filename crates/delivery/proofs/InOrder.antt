@@ -18,7 +18,7 @@ use Rattle.plan.specs.declared.make.Planned.{Planned}
 use Rattle.plan.specs.Answer.{plannedFor}
 use Rattle.plan.proofs.Answered.{planned-taken}
 use Rattle.plan.proofs.Main.{Makes, made-accepted}
-use Rattle.running.specs.Total.{totalSteps, resultArea}
+use Rattle.totals.specs.Total.{totalSteps, resultArea}
 use Rattle.moving.specs.Bytes.{AllZero}
 use Rattle.moving.specs.Step.{Buffers, areaBytes, buffersOf, buffersFit}
 use Rattle.moving.specs.Call.{Moment, begun, ran}

@@ -17,7 +17,7 @@ use Rattle.bank.specs.declared.Geometry.{Geometry}
 use Rattle.bank.specs.Geometry.{records}
 use Rattle.order.specs.declared.Order.{Order}
 use Rattle.order.specs.Order.{judgement}
-use Rattle.order.proofs.Main.{comes}
+use Rattle.addresses.proofs.Main.{comes}
 use Rattle.moving.specs.Bytes.{AllZero, recordOf}
 use Rattle.moving.specs.Call.{Moment, begun, ran}
 use Rattle.moving.specs.Step.{Buffers, areaBytes, buffersOf, memoryBytes}

@@ -8,9 +8,9 @@ use lib.ListN.{length, take, drop, replicate}
 use Rattle.bank.specs.declared.Geometry.{Geometry}
 use Rattle.bank.specs.Geometry.{records}
 use Rattle.order.specs.declared.Order.{Order}
-use Rattle.order.specs.Address.{sentTo}
+use Rattle.addresses.specs.Address.{sentTo}
 use Rattle.plan.specs.Answer.{plannedFor}
-use Rattle.running.specs.Total.{totalSteps, resultArea}
+use Rattle.totals.specs.Total.{totalSteps, resultArea}
 use Rattle.moving.specs.Bytes.{recordOf}
 use Rattle.moving.specs.Step.{Buffers, buffersOf, areaBytes, memoryBytes}
 use Rattle.moving.specs.Call.{begun, ran}

@@ -16,9 +16,9 @@ use bytes::copy_into;
 use order::Order;
 use plan::make::plan_for;
 use reading::read_order;
-use running::result_area;
 use sending::progress::Progress;
 use sending::send_all;
+use totals::result_area;
 
 // Done; refused by a number, and z with 3, 0 with every other; or the run, of so many bytes, has no room in the buffers.
 pub enum Delivery {

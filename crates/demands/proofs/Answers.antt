@@ -7,13 +7,13 @@ use native.Mathlib.Omega.{arith}
 use lib.ListN.{length}
 use Rattle.algebra.specs.Matrix.{source}
 use Rattle.order.specs.declared.Order.{Order}
-use Rattle.order.specs.declared.address.Target.{Target}
-use Rattle.order.specs.declared.address.Source.{Source}
-use Rattle.order.specs.declared.address.Source.the-variants as answer
+use Rattle.addresses.specs.declared.Target.{Target}
+use Rattle.addresses.specs.declared.Source.{Source}
+use Rattle.addresses.specs.declared.Source.the-variants as answer
 use Rattle.order.specs.Order.{matrixOf, withZ, zWith}
-use Rattle.order.specs.Address.{Found, foundFor, meaningOf, questionNumber, targetOf}
-use Rattle.order.proofs.Asked.{source-given, source-refused, target-refused}
-use Rattle.order.proofs.Main.{one-answer}
+use Rattle.addresses.specs.Address.{Found, foundFor, meaningOf, questionNumber, targetOf}
+use Rattle.addresses.proofs.Asked.{source-given, source-refused, target-refused}
+use Rattle.addresses.proofs.Main.{one-answer}
 use Rattle.planning.specs.declared.state.State.{State}
 use Rattle.planning.specs.Stored.{emptyPlan}
 use Rattle.planning.proofs.Running.{empty-stuck}

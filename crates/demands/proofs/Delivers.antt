@@ -15,9 +15,9 @@ use Rattle.bank.specs.Limits.{PASSES, ROWS}
 use Rattle.bank.specs.declared.Geometry.{Geometry}
 use Rattle.bank.specs.Geometry.{records}
 use Rattle.order.specs.declared.Order.{Order}
-use Rattle.order.specs.declared.address.Target.{Target}
+use Rattle.addresses.specs.declared.Target.{Target}
 use Rattle.order.specs.Order.{matrixOf, judgement}
-use Rattle.order.specs.Address.{sentTo}
+use Rattle.addresses.specs.Address.{sentTo}
 use Rattle.order.proofs.Accepted.{Accepted, judgement→accepted, matrix-below, matrix-length}
 use Rattle.planning.specs.declared.Plan.{Plan}
 use Rattle.planning.specs.Columns.{phi}
@@ -30,7 +30,7 @@ use Rattle.planning.proofs.Still.{still-or, still-target, target-still}
 use Rattle.planning.proofs.Stored.{route-length, route-none}
 use Rattle.plan.specs.declared.make.Planned.{Planned}
 use Rattle.plan.specs.Answer.{plannedFor}
-use Rattle.running.specs.Total.{resultArea}
+use Rattle.totals.specs.Total.{resultArea}
 use Rattle.plan.proofs.Answered.{planned-taken}
 use Rattle.plan.proofs.Main.{made-accepted}
 use Rattle.moving.specs.Bytes.{AllZero, recordOf}

@@ -14,3 +14,5 @@ pub mod Useless
 pub mod Possible
 pub mod Trials
 pub mod Unmarked
+pub mod Recognises
+pub mod UselessLists

@@ -37,7 +37,7 @@ use Rattle.demands.specs.Answers.{Answers}
 use Rattle.demands.specs.Delivers.{Reached}
 use Rattle.demands.specs.Possible.{Call, Comes, Possible, again, busyCalls, callsOf, flipOrder, inTurn, xorOrder, zeroOrder}
 use Rattle.demands.specs.Possible.Call.{asks, runs}
-use Rattle.order.specs.Address.{sentTo}
+use Rattle.addresses.specs.Address.{sentTo}
 
 -- ---- an order that is taken: the identity with any c
 

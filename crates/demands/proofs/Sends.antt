@@ -11,12 +11,13 @@ use Rattle.algebra.specs.Matrix.{singular}
 use Rattle.bank.specs.Geometry.{inLimits, records}
 use Rattle.bank.specs.Limits.{ROWS}
 use Rattle.order.specs.declared.Order.{Order}
-use Rattle.order.specs.declared.address.Source.{Source}
+use Rattle.addresses.specs.declared.Source.{Source}
 use Rattle.order.specs.Order.{badForm, judgement, matrixOf}
-use Rattle.order.specs.Address.{Found, foundFor, meaningOf, questionNumber, targetOf}
-use Rattle.order.proofs.Asked.{number-none, number-order, number-ten, target-number}
+use Rattle.addresses.specs.Address.{Found, foundFor, meaningOf, questionNumber, targetOf}
+use Rattle.addresses.proofs.Asked.{number-none, number-order, number-ten, target-number}
 use Rattle.order.proofs.Judged.{formless, outside-limits, regular-none, singular-three, word-form}
-use Rattle.order.proofs.Main.{comes, sends, shared-target→three, three→shared-target}
+use Rattle.order.proofs.Main.{shared-target→three, three→shared-target}
+use Rattle.addresses.proofs.Main.{comes, sends}
 use Rattle.demands.specs.Ours.{ours}
 use Rattle.demands.specs.Numbers.{Refusal}
 use Rattle.demands.specs.Sends.{Formed, OnlySource, Sends, SharedTarget}

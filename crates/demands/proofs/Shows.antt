@@ -13,10 +13,10 @@ use Rattle.algebra.proofs.Singular.{kernel-killed, kernel-least, target-inj, ta
 use Rattle.algebra.specs.Matrix.{applied, kernel}
 use Rattle.bank.specs.declared.Geometry.{Geometry}
 use Rattle.order.specs.declared.Order.{Order}
-use Rattle.order.specs.declared.address.Source.{Source}
+use Rattle.addresses.specs.declared.Source.{Source}
 use Rattle.order.specs.Order.{judgement, matrixOf, zWith}
-use Rattle.order.specs.Address.{Found, foundFor, meaningOf, questionNumber, sentTo, targetOf}
-use Rattle.order.proofs.Asked.{question-three}
+use Rattle.addresses.specs.Address.{Found, foundFor, meaningOf, questionNumber, sentTo, targetOf}
+use Rattle.addresses.proofs.Asked.{question-three}
 use Rattle.order.proofs.Judged.{three-singular, z-other, z-three}
 use Rattle.plan.specs.Answer.{plannedFor}
 use Rattle.reading.specs.Reading.{Reads, Whole}

@@ -14,7 +14,7 @@ use Rattle.algebra.specs.Vector.{bit, parity, unlessZero, comb, unitVectors}
 use Rattle.algebra.specs.Matrix.{applied, target, columns, identity, isIdentity, kills, singular, marked, source, after, inverse}
 use Rattle.order.specs.declared.Order.{Order}
 use Rattle.order.specs.Order.{strayRow, strayComplement, spareRow, badForm, judgement, formNumber}
-use Rattle.order.specs.Address.{sentTo}
+use Rattle.addresses.specs.Address.{sentTo}
 use Rattle.planning.specs.declared.Plan.{Plan}
 use Rattle.planning.specs.declared.Phase.the-variants.{Reads}
 use Rattle.planning.specs.declared.state.State.{State}
@@ -25,7 +25,7 @@ use Rattle.planning.specs.Running.{countInLimits, sound}
 use Rattle.planning.specs.Stored.{planFor, planOf, routeOf, storedComplements, storedPass, storedRows}
 use Rattle.plan.specs.declared.make.Planned.{Planned}
 use Rattle.plan.specs.Answer.{plannedFor}
-use Rattle.running.specs.Total.{totalSteps}
+use Rattle.totals.specs.Total.{totalSteps}
 use Rattle.plan.proofs.Answered.{planned-taken}
 use Rattle.plan.proofs.Main.{made-accepted}
 use Rattle.moving.specs.Bytes.{copied, each, eachFrom}

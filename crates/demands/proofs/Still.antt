@@ -17,7 +17,7 @@ use Rattle.planning.specs.Stored.{routeOf}
 use Rattle.planning.proofs.Stored.{route-length, route-none}
 use Rattle.plan.specs.Answer.{plannedFor}
 use Rattle.plan.proofs.Main.{made-accepted}
-use Rattle.running.specs.Total.{resultArea}
+use Rattle.totals.specs.Total.{resultArea}
 use Rattle.moving.specs.Step.{Buffers}
 use Rattle.moving.specs.Call.{Moment, refuses, runCount}
 use Rattle.moving.proofs.Calls.{by-run, refused-count, run-count, run-none, run-same}

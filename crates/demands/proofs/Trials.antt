@@ -6,7 +6,7 @@ use Rattle.algebra.specs.Search.{leastFrom, least, anyBelow, firstOf, which, li
 use Rattle.algebra.specs.Vector.{bit, parity, unlessZero, comb, unitVectors}
 use Rattle.algebra.specs.Matrix.{applied, target, columns, identity, isIdentity, kernel, kills, singular, marked, after, inverse, source}
 use Rattle.order.specs.Order.{strayRow, strayComplement, spareRow, badForm, judgement, formNumber, zWith}
-use Rattle.order.specs.Address.{questionNumber, targetOf}
+use Rattle.addresses.specs.Address.{questionNumber, targetOf}
 use Rattle.planning.specs.Pass.{complemented, phases, passSteps, total}
 use Rattle.planning.specs.Columns.{adding, placing, phi, delta, zeroColumn, onlyMarked}
 use Rattle.planning.specs.Making.{reached, chosen, unmarked, partner, step1, summands, step2, operations}
@@ -14,7 +14,7 @@ use Rattle.planning.specs.Making.{cameFrom, swaps, eraser, erases, busy, rounds
 use Rattle.planning.specs.Stored.{storedRows, storedComplements, planOf, storedPass, routeOf, planFor}
 use Rattle.planning.specs.Running.{countInLimits}
 use Rattle.plan.specs.Answer.{plannedFor}
-use Rattle.running.specs.Total.{totalSteps, resultArea}
+use Rattle.totals.specs.Total.{totalSteps, resultArea}
 use Rattle.demands.specs.Trials.{trials, right}
 
 pub trials-right : T (allPass right trials)

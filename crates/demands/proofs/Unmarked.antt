@@ -23,7 +23,7 @@ use Rattle.planning.specs.Stored.{emptyPlan, planFor, planOf, routeOf}
 use Rattle.planning.proofs.Phases.{phases-are}
 use Rattle.planning.proofs.Stored.{route-length}
 use Rattle.plan.specs.Answer.{plannedFor}
-use Rattle.running.specs.Total.{resultArea, totalSteps}
+use Rattle.totals.specs.Total.{resultArea, totalSteps}
 use Rattle.moving.specs.Number.{loadOf, passOf, phaseOf, tierOf}
 use Rattle.moving.specs.Step.{Buffers, buffersFit, byPhase, move, movesFrom, readMove, writeMove}
 use Rattle.moving.specs.Call.{Moment, buffersBy, ran, readyNumber, runCount, runNumber, stateBy, stepNumber, stepped, turnNumber}

@@ -16,13 +16,13 @@ use Rattle.algebra.specs.Search.{least, leastFrom, anyBelow, firstOf, listed}
 use Rattle.algebra.specs.Vector.{WORD, parity, unitVectors}
 use Rattle.algebra.specs.Matrix.{applied, columns, identity, isIdentity, kernel, kills, singular, target}
 use Rattle.algebra.proofs.Lists.{getD-zeros}
-use Rattle.order.specs.declared.address.Target.{Target}
+use Rattle.addresses.specs.declared.Target.{Target}
 use Rattle.order.specs.declared.Order.{Order}
 use Rattle.order.specs.declared.Verdict.{Verdict}
 use Rattle.order.specs.Order.{Words, badForm, formNumber, judgement, matrixOf, spareRow, strayComplement, strayRow, zWith}
-use Rattle.order.specs.Address.{questionNumber}
+use Rattle.addresses.specs.Address.{questionNumber}
 use Rattle.order.proofs.Accepted.{judgement→accepted, matrix-length}
-use Rattle.order.proofs.Asked.{number-none, number-order}
+use Rattle.addresses.proofs.Asked.{number-none, number-order}
 use Rattle.planning.specs.declared.Plan.{Plan}
 use Rattle.planning.specs.Pass.{loadSteps, passSteps, phases, total}
 use Rattle.planning.specs.State.{freshState}
@@ -31,7 +31,7 @@ use Rattle.planning.specs.Stored.{emptyPlan, planOf, routeOf}
 use Rattle.planning.proofs.Made.{made-length}
 use Rattle.planning.proofs.Running.{sound→can-run}
 use Rattle.plan.specs.Answer.{plannedFor}
-use Rattle.running.specs.Total.{resultArea, totalSteps}
+use Rattle.totals.specs.Total.{resultArea, totalSteps}
 use Rattle.moving.specs.Bytes.{copied, each, eachFrom, recordOf}
 use Rattle.moving.specs.Number.{loadOf, passOf, phaseOf, tierOf}
 use Rattle.moving.specs.Step.{Buffers, readFrom}

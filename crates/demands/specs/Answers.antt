@@ -6,8 +6,8 @@ use mathlib.Core.List.{List, [], _++_}
 use Prim.Native.Nat.{ℕ, _+_, _-_, _<_, _≤_, min}
 use lib.ListN.{length, take, drop}
 use Rattle.order.specs.declared.Order.{Order}
-use Rattle.order.specs.declared.address.Source.{Source}
-use Rattle.order.specs.Address.{meaningOf}
+use Rattle.addresses.specs.declared.Source.{Source}
+use Rattle.addresses.specs.Address.{meaningOf}
 use Rattle.planning.specs.declared.Plan.{Plan}
 use Rattle.planning.specs.Stored.{emptyPlan}
 use Rattle.moving.specs.Step.{Buffers}

@@ -9,7 +9,7 @@ use Rattle.bank.specs.Geometry.{stripes}
 use Rattle.algebra.specs.Matrix.{columns, rank}
 use Rattle.order.specs.declared.Order.{Order}
 use Rattle.order.specs.Order.{matrixOf}
-use Rattle.order.specs.Address.{sentTo}
+use Rattle.addresses.specs.Address.{sentTo}
 use Rattle.planning.specs.declared.Plan.{Plan}
 use Rattle.planning.specs.Pass.{performed}
 use Rattle.planning.specs.Columns.{phi}

@@ -11,9 +11,11 @@ pub mod Repeats
 pub mod Delivers
 pub mod Demands
 pub mod Unmarked
+pub mod Recognises
 pub mod Still
 pub mod PassCounts
 pub mod Chains
 pub mod Useless
+pub mod UselessLists
 pub mod Possible
 pub mod Trials

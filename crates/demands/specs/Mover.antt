@@ -4,8 +4,8 @@ use mathlib.Core.List.{List}
 use Prim.Native.Nat.{ℕ}
 use Rattle.order.specs.declared.Order.{Order}
 use Rattle.order.specs.declared.Verdict.{Verdict}
-use Rattle.order.specs.declared.address.Target.{Target}
-use Rattle.order.specs.declared.address.Source.{Source}
+use Rattle.addresses.specs.declared.Target.{Target}
+use Rattle.addresses.specs.declared.Source.{Source}
 use Rattle.planning.specs.declared.Plan.{Plan}
 use Rattle.planning.specs.declared.state.State.{State}
 use Rattle.plan.specs.declared.make.Planned.{Planned}
@@ -13,6 +13,7 @@ use Rattle.moving.specs.Step.{Buffers}
 use Rattle.moving.specs.Call.{Moment}
 use Rattle.mover.specs.declared.step.Stepped.{Stepped}
 use Rattle.mover.specs.declared.run.Ran.{Ran}
+use Rattle.lists.specs.declared.Recognised.{Recognised}
 
 -- which answers a call for a step may give, at a moment and for the step asked, and which bytes it may leave
 abbrev pub StepRule : Type 1
@@ -36,6 +37,8 @@ pub record Mover : Type 1 where
   pub fresh : State
   pub step : StepRule
   pub run : RunRule
+  -- the number, n, the matrix, the complement and z for a list of targets
+  pub recognises : List ℕ → Recognised
   -- which number, order and z a text may give
   pub reads : List ℕ → ℕ → Order → ℕ → Type 0
   -- how many bytes of a plan's listing are written into a room, and what the room then holds

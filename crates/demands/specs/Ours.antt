@@ -1,13 +1,14 @@
 -- Which mover is ours? Each field is the definition that the call's contract cites. Assumes nothing.
 use mathlib.Core.Path.{_≡_}
 use Rattle.order.specs.Order.{verdict}
-use Rattle.order.specs.Address.{targetOf, meaningOf, foundFor}
+use Rattle.addresses.specs.Address.{targetOf, meaningOf, foundFor}
 use Rattle.planning.specs.State.{freshState}
 use Rattle.plan.specs.Answer.{plannedFor}
-use Rattle.running.specs.Total.{totalSteps, resultArea}
+use Rattle.totals.specs.Total.{totalSteps, resultArea}
 use Rattle.mover.specs.Promise.{StepPromise, RunPromise}
 use Rattle.reading.specs.Reading.{Reads}
 use Rattle.listing.specs.Listing.{written, roomAfter}
+use Rattle.lists.specs.Recognised.{recognised}
 use Rattle.demands.specs.Mover.{Mover}
 
 abbrev pub ours : Mover
@@ -22,6 +23,7 @@ ours =
       fresh = freshState;
       step = StepPromise;
       run = RunPromise;
+      recognises = recognised;
       reads = Reads;
       lists = written;
       leaves = roomAfter;

@@ -12,7 +12,7 @@ use Rattle.bank.specs.declared.Geometry.{Geometry}
 use Rattle.bank.specs.Geometry.{inLimits}
 use Rattle.algebra.specs.Matrix.{identity}
 use Rattle.order.specs.declared.Order.{Order}
-use Rattle.order.specs.Address.{sentTo}
+use Rattle.addresses.specs.Address.{sentTo}
 use Rattle.planning.specs.declared.Plan.{Plan}
 use Rattle.moving.specs.Step.{Buffers, buffersFit}
 use Rattle.moving.specs.Call.{Moment}

@@ -10,9 +10,9 @@ use Rattle.algebra.specs.Vector.{WORD}
 use Rattle.bank.specs.Limits.{ROWS}
 use Rattle.bank.specs.Geometry.{inLimits, records}
 use Rattle.order.specs.declared.Order.{Order}
-use Rattle.order.specs.declared.address.Source.{Source}
+use Rattle.addresses.specs.declared.Source.{Source}
 use Rattle.order.specs.Order.{Words, badForm}
-use Rattle.order.specs.Address.{meaningOf, sentTo}
+use Rattle.addresses.specs.Address.{meaningOf, sentTo}
 use Rattle.demands.specs.Mover.{Mover}
 use Rattle.demands.specs.Numbers.{Refusal}
 

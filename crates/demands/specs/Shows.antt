@@ -6,8 +6,8 @@ use Prim.Native.Nat.{ℕ, _<_}
 use lib.Bits.{bitXor}
 use Rattle.bank.specs.declared.Geometry.{Geometry}
 use Rattle.order.specs.declared.Order.{Order}
-use Rattle.order.specs.declared.address.Source.{Source}
-use Rattle.order.specs.Address.{meaningOf, sentTo}
+use Rattle.addresses.specs.declared.Source.{Source}
+use Rattle.addresses.specs.Address.{meaningOf, sentTo}
 use Rattle.reading.specs.Reading.{Whole}
 use Rattle.demands.specs.Mover.{Mover}
 use Rattle.demands.specs.Numbers.{Inside}

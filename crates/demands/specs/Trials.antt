@@ -7,7 +7,7 @@ use lib.ListN.{length, replicate}
 use Rattle.bank.specs.Limits.{ROWS, PASSES}
 use Rattle.bank.specs.declared.Geometry.{Geometry}
 use Rattle.order.specs.declared.Order.{Order}
-use Rattle.order.specs.declared.address.Target.{Target}
+use Rattle.addresses.specs.declared.Target.{Target}
 use Rattle.planning.specs.declared.Plan.{Plan}
 use Rattle.planning.specs.Pass.{Pass}
 use Rattle.planning.specs.Stored.{routeOf}

@@ -11,10 +11,10 @@ use Rattle.bank.specs.Checks.{handed}
 use Rattle.bank.specs.Geometry.{inLimits}
 use Rattle.order.specs.declared.Order.{Order}
 use Rattle.order.specs.declared.Verdict.{Verdict}
-use Rattle.order.specs.declared.address.Target.{Target}
-use Rattle.order.specs.declared.address.Source.the-variants.{Refused as NoSource}
+use Rattle.addresses.specs.declared.Target.{Target}
+use Rattle.addresses.specs.declared.Source.the-variants.{Refused as NoSource}
 use Rattle.order.specs.Order.{judgement, matrixOf, verdict, withZ, zWith}
-use Rattle.order.specs.Address.{questionNumber, targetOf}
+use Rattle.addresses.specs.Address.{questionNumber, targetOf}
 use Rattle.planning.specs.declared.Plan.{Plan}
 use Rattle.planning.specs.declared.state.State.{State}
 use Rattle.planning.specs.State.{freshState}
@@ -22,7 +22,7 @@ use Rattle.planning.specs.Making.{passesMade}
 use Rattle.planning.specs.Stored.{emptyPlan, planOf, routeOf}
 use Rattle.plan.specs.declared.make.Planned.{Planned}
 use Rattle.plan.specs.Answer.{plannedFor}
-use Rattle.running.specs.Total.{totalSteps, resultArea}
+use Rattle.totals.specs.Total.{totalSteps, resultArea}
 use Rattle.moving.specs.Bytes.{copied}
 use Rattle.moving.specs.Number.{passOf, loadOf, phaseOf}
 use Rattle.moving.specs.Step.{Buffers, areaRead, byPhase, bytesOf, move, movesFrom, readFrom, withMemory}
@@ -37,10 +37,11 @@ use Rattle.demands.specs.Ours.{ours}
 use Rattle.demands.specs.Answers.{Answers}
 use Rattle.demands.specs.Sends.{Sends}
 use Rattle.demands.specs.Delivers.{Delivers}
+use Rattle.demands.specs.Recognises.{nothingFound}
 use Rattle.demands.specs.Shows.{Explains}
 use Rattle.demands.specs.Still.{CostsNothing}
 
--- ours but for these; a question backwards is answered as ours is
+-- ours but for these; a question backwards, and one about a list, is answered as ours is
 abbrev altered : (Order → Verdict) → (Order → ℕ → Target) → (Order → Bool → Planned) → (Plan → ℕ) → (Plan → ℕ)
     → State → StepRule → RunRule → (List ℕ → ℕ → Order → ℕ → Type 0) → (Plan → List ℕ → ℕ) → (Plan → List ℕ → List ℕ) → Mover
 altered judges sends plans total area fresh step run reads lists leaves =
@@ -54,6 +55,7 @@ altered judges sends plans total area fresh step run reads lists leaves =
       fresh = fresh;
       step = step;
       run = run;
+      recognises = ours .recognises;
       reads = reads;
       lists = lists;
       leaves = leaves;
@@ -90,6 +92,7 @@ refusesAll =
       fresh = freshState;
       step = λ plan m k r w. (r ≡ Refused 7 (m .state)) × (w ≡ m .buffers);
       run = λ plan m q r w. (r ≡ record { number = 7; count = 0; state = m .state }) × (w ≡ m .buffers);
+      recognises = λ list. nothingFound 11 0;
       reads = λ text k order z. (k ≡ 8) × (order ≡ noOrder) × (z ≡ 0);
       lists = λ plan room. 0;
       leaves = λ plan room. room;

@@ -6,11 +6,11 @@ use crate::say::words;
 use bank::Geometry;
 use bank::ROWS;
 use lessons::next_place;
-use listing::refusal::REFUSAL;
-use listing::refusal::write_refusal;
 use matrix::rows::apply;
 use order::Order;
 use order::judge;
+use writing::refusal::REFUSAL;
+use writing::refusal::write_refusal;
 
 // No row is zero and no two are the same, and yet the third is the sum of the first two.
 fn busy() -> Order {

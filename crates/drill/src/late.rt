@@ -3,17 +3,17 @@ use crate::say::byte;
 use crate::say::number;
 use crate::say::words;
 use crate::wrong;
+use addresses::target_of;
 use bank::Address;
 use bank::wide;
 use delivery::deliver;
 use lessons::next_place;
 use order::Order;
-use order::address::target_of;
 use plan::make::make_plan;
 use planning::Plan;
 use reading::read_order;
-use running::total_steps;
 use sending::progress::Progress;
+use totals::total_steps;
 
 // Key k begins at address k.
 fn keys() -> [u8; 16] {

@@ -4,6 +4,7 @@ use crate::say::bits;
 use crate::say::count;
 use crate::say::number;
 use crate::say::words;
+use addresses::target_of;
 use bank::Address;
 use bank::ROWS;
 use bank::power;
@@ -13,7 +14,6 @@ use lessons::mark_of;
 use libc::STDIN_FILENO;
 use matrix::vector::bit_of;
 use order::Order;
-use order::address::target_of;
 
 // The longest answer; a longer line is taken in parts.
 const LINE: usize = 80;

@@ -2,8 +2,8 @@
 // It knows the example bank only: 16 records of one byte, blocks of 2, 2 drives, a memory of 4, so a memoryload has one read and one write.
 use bank::ROWS;
 use matrix::rows::apply;
-use plan::store::pass_rows;
 use planning::Plan;
+use store::pass_rows;
 
 // The slot to which a pass sends address x.
 fn slot(rows: &[u32; ROWS], complement: u32, x: u32) -> usize {

@@ -7,10 +7,10 @@ use native.Mathlib.Omega.{arith}
 use lib.Pow.{pow-mono}
 use Rattle.bank.specs.Limits.{ROWS}
 use Rattle.order.specs.declared.Order.{Order}
-use Rattle.order.specs.declared.address.Target.{Target}
+use Rattle.addresses.specs.declared.Target.{Target}
 use Rattle.order.specs.Order.{zWith}
-use Rattle.order.specs.Address.{questionNumber, sentTo, targetOf}
-use Rattle.order.proofs.Asked.{settled, sent-below, target-number, target-address}
+use Rattle.addresses.specs.Address.{questionNumber, sentTo, targetOf}
+use Rattle.addresses.proofs.Asked.{settled, sent-below, target-number, target-address}
 use Rattle.text.specs.Lines.{decimal}
 use Rattle.text.proofs.Decimals.{decimal-same}
 use Rattle.words.specs.Says.{Says, DIGITS}

@@ -4,7 +4,7 @@ use mathlib.Core.List.{List}
 use Prim.Native.Nat.{ℕ, suc}
 use Rattle.order.specs.declared.Order.{Order}
 use Rattle.order.specs.Order.{zWith}
-use Rattle.order.specs.Address.{questionNumber, sentTo}
+use Rattle.addresses.specs.Address.{questionNumber, sentTo}
 use Rattle.text.specs.Lines.{decimal}
 use Rattle.lessons.specs.declared.Mark.{Mark}
 use Rattle.lessons.specs.declared.Mark.the-variants.{Right, Wrong, Refused}

@@ -5,9 +5,9 @@ ghost use lib.Dec.{eqb, leb};
 ghost use lib.ListN.{length, getD};
 ghost use Rattle.algebra.specs.Search.{least};
 ghost use Rattle.lessons.specs.Mark.{Marked};
+use addresses::target_of;
 use bank::Address;
 use order::Order;
-use order::address::target_of;
 use words::Word;
 use words::read_number;
 

@@ -1,4 +1,1 @@
-pub mod Put
-pub mod Refused
-pub mod Digits
 pub mod Passes

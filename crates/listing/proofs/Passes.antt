@@ -4,7 +4,6 @@ use mathlib.Core.Bool.{true, false}
 use mathlib.Core.List.{List, [], _∷_, _++_, append-assoc, append-nil}
 use Prim.Native.Nat.{ℕ, zero, suc, _+_, _*_, _<_, _≤_}
 use native.Mathlib.Omega.{arith}
-use native.Mathlib.Nat.{suc-mul}
 use native.Mathlib.Numerals.{add-one}
 use borrow.Author.Tests.{le-leb, lt-leb}
 use borrow.Table.Steps.{cases}
@@ -18,14 +17,15 @@ use Rattle.planning.specs.Stored.{storedPass, routeOf}
 use Rattle.planning.specs.Running.{sound}
 use Rattle.planning.proofs.Running.{sound-allowed, sound-few}
 use Rattle.planning.proofs.Stored.{route-length, route-at, taken-length}
-use Rattle.running.specs.Total.{resultArea}
+use Rattle.totals.specs.Total.{resultArea}
 use Rattle.running.proofs.Judging.{part-matrix}
 use Rattle.text.specs.Lines.{line, decimal, rowLines}
 use Rattle.text.proofs.Decimals.{line-short}
-use Rattle.text.proofs.RowLines.{length-bits, length-row-lines}
+use Rattle.text.proofs.RowLines.{length-bits, square-long}
 use Rattle.listing.specs.Listing.{passesWord, stepsWord, resultWord, passWord, passLines, passesLines, headLines, tailLines}
 use Rattle.listing.specs.Listing.{listing, written, roomAfter}
-use Rattle.listing.specs.Written.{put, Wrote, passAtLines}
+use Rattle.listing.specs.Passes.{passAtLines}
+use Rattle.writing.specs.Written.{put, Wrote}
 
 -- ---- the passes
 passes-append : (n k : ℕ) (ps qs : List Pass) → passesLines n k (ps ++ qs) ≡ passesLines n k ps ++ passesLines n (k + length ps) qs
@@ -86,7 +86,7 @@ module _ (plan : Plan) where
         let rows = take n (drop (p * ROWS) (plan .rows)) in
         let long : length rows ≡ n = taken-length PASSES ROWS n (plan .rows) p room fits h in
         let pass = length-pass n p (storedPass ROWS n (plan .rows) (plan .complements) p) in
-        omega (arith, pass, rw long at (length-row-lines n rows), rw (← add-one n) at (suc-mul n (n + 1)))
+        omega (arith, pass, square-long n rows long)
 
     pass-small : (p : ℕ) → p < PASSES → length (passAtLines plan p) ≤ passMost
     pass-small p h = omega (arith, pass-length p h, line-short passWord p, square-small (plan .geometry .n) fits)

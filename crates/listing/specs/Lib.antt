@@ -1,3 +1,3 @@
 -- Listings, and what a room holds afterwards.
 pub mod Listing
-pub mod Written
+pub mod Passes

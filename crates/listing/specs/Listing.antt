@@ -1,14 +1,14 @@
--- What is the listing of a plan, and what is written in its place for an order that is refused? Assumes nothing.
+-- What is the listing of a plan? Assumes nothing.
 use mathlib.Core.Bool.{cond}
 use mathlib.Core.List.{List, [], _∷_, _++_}
 use Prim.Native.Nat.{ℕ, suc}
-use lib.Dec.{eqb, leb}
+use lib.Dec.{leb}
 use lib.ListN.{length, drop}
 use Rattle.planning.specs.declared.Plan.{Plan}
 use Rattle.planning.specs.Pass.{Pass, total}
 use Rattle.planning.specs.Stored.{routeOf}
 use Rattle.planning.specs.Running.{sound}
-use Rattle.running.specs.Total.{resultArea}
+use Rattle.totals.specs.Total.{resultArea}
 use Rattle.text.specs.Lines.{line, decimal, bits, rowLines}
 
 -- the words of a listing, as bytes, each with its space
@@ -53,12 +53,3 @@ written plan room = cond (leb (length (listing plan)) (length room)) (length (li
 -- the room afterwards: the listing, and then what was there
 unfoldable pub roomAfter : Plan → List ℕ → List ℕ
 roomAfter plan room = cond (leb (length (listing plan)) (length room)) (listing plan ++ drop (length (listing plan)) room) room
-
--- ---- an order that is refused
-
-abbrev pub refusedWord : List ℕ
-refusedWord = 114 ∷ 101 ∷ 102 ∷ 117 ∷ 115 ∷ 101 ∷ 100 ∷ 32 ∷ []
-
--- one line: `refused K`, and with 3 a space and z
-unfoldable pub refusal : ℕ → ℕ → List ℕ
-refusal number z = line (refusedWord ++ (decimal number ++ cond (eqb number 3) (32 ∷ decimal z) []))

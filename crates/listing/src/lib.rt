@@ -1,7 +1,4 @@
 // Listings of plans are written, on slices.
-mod write; // write.rt: words, numbers and rows into a room
-pub mod refusal; // refusal.rt: the line for an order that is refused
-
 ghost use mathlib.Core.Path.{_≡_};
 ghost use mathlib.Core.Bool.{true};
 ghost use mathlib.Core.List.{_++_};
@@ -10,18 +7,19 @@ ghost use lib.ListN.{length, take, drop};
 ghost use Rattle.bank.specs.Limits.{ROWS, PASSES};
 ghost use Rattle.planning.specs.Running.{sound};
 ghost use Rattle.listing.specs.Listing.{headLines, tailLines, listing, written, roomAfter};
-ghost use Rattle.listing.specs.Written.{Wrote, passAtLines};
-use crate::write::line_size;
-use crate::write::put_line;
-use crate::write::put_row;
-use crate::write::put_rows;
+ghost use Rattle.listing.specs.Passes.{passAtLines};
+ghost use Rattle.writing.specs.Written.{Wrote};
 use bank::PASSES;
 use bank::ROWS;
-use plan::store::pass_rows;
 use planning::Plan;
 use running::is_sound;
-use running::result_area;
-use running::total_steps;
+use store::pass_rows;
+use totals::result_area;
+use totals::total_steps;
+use writing::write::line_size;
+use writing::write::put_line;
+use writing::write::put_row;
+use writing::write::put_rows;
 
 // As many bytes as any listing has: three lines, and one for each pass, of at most 28 bytes, a word, 20 digits and LF;
 // and for each pass at most ROWS + 1 lines of at most ROWS + 1 bytes.

@@ -12,8 +12,8 @@ use Rattle.moving.proofs.Calls.{CallReady, nine-means, refused-count, refused-k
 use Rattle.moving.proofs.Calls.{step-done, step-nine, zero-means}
 use Rattle.moving.specs.Call.{Moment, ran, readyNumber, runCount, runNumber, stepNumber, turnNumber, readyBy}
 use Rattle.moving.specs.Step.{Buffers, buffersFit, move, movesFrom}
-use Rattle.running.proofs.Judging.{total-inside}
-use Rattle.running.specs.Total.{totalSteps}
+use Rattle.totals.proofs.Total.{total-inside}
+use Rattle.totals.specs.Total.{totalSteps}
 use Rattle.planning.proofs.Running.{sound-allowed, sound-few, sound→checked, sound→runs}
 use Rattle.planning.proofs.Stored.{route-length}
 use Rattle.planning.specs.Pass.{total}

@@ -11,10 +11,10 @@ use bank::Step;
 use blocks::moves::move_step;
 use planning::Plan;
 use planning::state::State;
-use running::total_steps;
 use tables::pace::pace_of;
 use tables::tables::Tables;
 use tables::tables::tables_of;
+use totals::total_steps;
 
 // The number, the steps that were done, and the state that follows.
 pub struct Ran {

@@ -16,9 +16,9 @@ use blocks::moves::move_step;
 use planning::Plan;
 use planning::state::State;
 use running::can_run;
-use running::total_steps;
 use tables::pace::pass_of;
 use tables::tables::tables_of;
+use totals::total_steps;
 
 // Done, done again (9), or refused by a number; each with the state that follows.
 pub enum Stepped {

@@ -1,4 +1,3 @@
 pub mod Judged
 pub mod Accepted
-pub mod Asked
 pub mod Main

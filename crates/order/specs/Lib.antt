@@ -1,3 +1,2 @@
--- An order, its judgement, and addresses both ways.
+-- An order and its judgement.
 pub mod Order
-pub mod Address

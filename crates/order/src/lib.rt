@@ -1,6 +1,5 @@
-// An order: a matrix and a complement for a bank of drives, its judgement, and addresses both ways.
+// An order: a matrix and a complement for a bank of drives, and its judgement.
 pub mod form; // form.rt: stray bits, and places meant to be zero
-pub mod address; // address.rt: where an address goes, and where one comes from
 
 ghost use mathlib.Core.Path.{_≡_};
 ghost use Prim.Native.Nat.{_≤_};
@@ -44,14 +43,14 @@ fn bad_form(order: Order) -> bool
 }
 
 // A check: its number where it applies, else what the later checks say.
-pub(crate) fn refuse(applies: bool, number: u8, later: u8) -> u8
+pub fn refuse(applies: bool, number: u8, later: u8) -> u8
     ensures { λ r. ⌜ r ≡ refuse applies number later ⌝ }
 {
     if applies { number } else { later }
 }
 
 // The checks that need no elimination: 1 for the geometry, 2 for the form, or 0.
-pub(crate) fn form_number(order: Order) -> u8
+pub fn form_number(order: Order) -> u8
     ensures { λ r. ⌜ r ≡ formNumber order ⌝ }
 {
     if !bank::in_limits(order.geometry) {

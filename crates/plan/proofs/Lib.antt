@@ -1,4 +1,3 @@
-pub mod Storing
 pub mod Making
 pub mod Answered
 pub mod Main

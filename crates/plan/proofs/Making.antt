@@ -33,8 +33,8 @@ use Rattle.planning.proofs.Run.{first-length, moved-nonzero, moved-ready}
 use Rattle.planning.proofs.Step2.{operations-length, operations-inverse}
 use Rattle.planner.proofs.Steps.{held-take}
 use Rattle.rounds.proofs.Products.{take-front}
-use Rattle.plan.specs.Store.{withPass}
-use Rattle.plan.proofs.Storing.{stored-more}
+use Rattle.store.specs.Store.{withPass}
+use Rattle.store.proofs.Storing.{stored-more}
 use Rattle.planning.specs.Inner.{RoundReady}
 
 -- the rows of A Q, array by array

@@ -1,3 +1,2 @@
 -- What a planning call answers.
-pub mod Store
 pub mod Answer

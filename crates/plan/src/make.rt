@@ -11,9 +11,6 @@ ghost use Rattle.algebra.specs.Matrix.{columns, isIdentity, singular, after};
 ghost use Rattle.planning.specs.Making.{passesMade};
 ghost use Rattle.planning.specs.Stored.{planFor, planOf};
 ghost use Rattle.plan.specs.Answer.{plannedFor};
-use crate::store::empty_plan;
-use crate::store::no_passes;
-use crate::store::with_pass;
 use bank::Address;
 use bank::Geometry;
 use bank::ROWS;
@@ -26,6 +23,9 @@ use planner::operations::operate;
 use planning::Plan;
 use rounds::is_busy;
 use rounds::round;
+use store::empty_plan;
+use store::no_passes;
+use store::with_pass;
 
 // The number of a planning call, and its plan: the empty plan where refused. With 3, z; 0 with every other number.
 pub struct Planned {

@@ -1,34 +1,22 @@
-// Can a plan run, whoever made it, and what does it total?
+// Can a plan run, whoever made it?
 ghost use mathlib.Core.Path.{_≡_};
 ghost use mathlib.Core.Bool.{true, not, _&&_, _||_};
 ghost use Prim.Native.Nat.{_<_, _≤_, _+_, _*_, _/_, _%_};
 ghost use lib.Dec.{eqb, leb};
-ghost use lib.ListN.{getD, length, take, drop};
+ghost use lib.ListN.{getD, take, drop};
 ghost use Rattle.bank.specs.Limits.{ROWS, PASSES};
 ghost use Rattle.algebra.specs.Search.{anyBelow};
 ghost use Rattle.algebra.specs.Matrix.{singular, spills};
 ghost use Rattle.bank.specs.Geometry.{inLimits};
-ghost use Rattle.planning.specs.Pass.{phases};
-ghost use Rattle.planning.specs.Stored.{routeOf};
 ghost use Rattle.planning.specs.Running.{countInLimits, strayRow, strayComplement, spareRow, spareComplement, singularPass, spillingPass, sound, canRun};
-ghost use Rattle.running.specs.Total.{totalSteps, resultArea};
 use bank::PASSES;
 use bank::PLACES;
 use bank::ROWS;
-use plan::store::pass_rows;
-use planning::Phase;
 use planning::Plan;
 use planning::state::State;
-
-// Whether the geometry and the number of passes are inside the limits.
-fn size_in_limits(plan: Plan) -> bool
-    ensures { λ r. ⌜ r ≡ inLimits (plan .geometry) && countInLimits plan ⌝ }
-{
-    if !bank::in_limits(plan.geometry) {
-        return false;
-    }
-    plan.count <= PASSES as u32
-}
+use store::pass_rows;
+use totals::size_in_limits;
+use totals::total_steps;
 
 // Whether one of the first n rows of a used pass is size or more.
 fn stray_rows(rows: &[u32; PLACES], count: usize, n: usize, size: u64) -> bool
@@ -182,36 +170,4 @@ pub fn can_run(plan: Plan, state: State) -> bool
         return false;
     }
     state.next.0 <= total_steps(plan)
-}
-
-// How many phases a memoryload of the plan has.
-pub fn phases(plan: Plan) -> u64
-    ensures { λ r. ⌜ r ≡ length (phases (routeOf plan)) ⌝ }
-{
-    if plan.blanks {
-        let all = [Phase::Reads, Phase::Writes, Phase::Blanks];
-        return all.len() as u64;
-    }
-    let all = [Phase::Reads, Phase::Writes];
-    all.len() as u64
-}
-
-// The steps of a pass times the passes; 0 where the geometry or the count is outside the limits.
-pub fn total_steps(plan: Plan) -> u64
-    ensures { λ r. ⌜ r ≡ totalSteps plan ⌝ }
-{
-    if !size_in_limits(plan) {
-        return 0;
-    }
-    let size = bank::power(plan.geometry.n);
-    let block = bank::power(plan.geometry.b);
-    let drives = bank::power(plan.geometry.d);
-    phases(plan) * size / (block * drives) * bank::wide(plan.count)
-}
-
-// The area where the result lies.
-pub fn result_area(plan: Plan) -> u32
-    ensures { λ r. ⌜ r ≡ resultArea plan ⌝ }
-{
-    plan.count % 2
 }

@@ -1,18 +1,18 @@
 // The trial orders on steps and runs: what each call answers, and what the bytes are afterwards.
 use crate::blanks;
 use crate::say;
+use addresses::target_of;
 use bank::Address;
 use bank::Step;
 use mover::run::run;
 use mover::step::Stepped;
 use mover::step::step;
 use order::Order;
-use order::address::target_of;
 use plan::make::make_plan;
 use planning::Plan;
 use planning::state::State;
-use running::result_area;
-use running::total_steps;
+use totals::result_area;
+use totals::total_steps;
 
 // The bytes of an area and of the memory in G, where a record has 8.
 pub(crate) const AREA: usize = 128;
@@ -280,7 +280,7 @@ pub(crate) fn lengths() {
     lent(b"memory empty", p, 0, AREA, AREA, 0);
     lent(
         b"the empty plan, area 0 empty, step 30",
-        plan::store::empty_plan(),
+        store::empty_plan(),
         30,
         0,
         AREA,

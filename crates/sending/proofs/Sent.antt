@@ -7,7 +7,7 @@ use Rattle.planning.specs.declared.Plan.{Plan}
 use Rattle.planning.specs.declared.state.State.{State}
 use Rattle.planning.specs.Pass.{total}
 use Rattle.planning.specs.Stored.{routeOf}
-use Rattle.running.specs.Total.{totalSteps}
+use Rattle.totals.specs.Total.{totalSteps}
 use Rattle.moving.specs.Step.{Buffers, move, movesFrom}
 use Rattle.moving.specs.Call.{Moment, begun, ran, stepped}
 use Rattle.moving.proofs.Calls.{CallReady, again-number, next-number, nine-state, ready-run, run-count, run-next, step-done}

@@ -4,7 +4,7 @@ use mathlib.Core.Bool.{true}
 use Prim.Native.Nat.{ℕ, zero, suc, _+_}
 use Rattle.planning.specs.declared.Plan.{Plan}
 use Rattle.planning.specs.Running.{sound}
-use Rattle.running.specs.Total.{totalSteps}
+use Rattle.totals.specs.Total.{totalSteps}
 use Rattle.moving.specs.Step.{Buffers, buffersFit}
 use Rattle.moving.specs.Call.{Moment, begun, stepped, ran}
 

@@ -6,7 +6,7 @@ ghost use Prim.Native.Nat.{_<_, _+_};
 ghost use Rattle.moving.specs.Step.{buffersOf};
 ghost use Rattle.moving.specs.Call.{begun, lent};
 ghost use Rattle.mover.specs.Promise.{stateOf};
-ghost use Rattle.running.specs.Total.{totalSteps};
+ghost use Rattle.totals.specs.Total.{totalSteps};
 ghost use Rattle.sending.specs.Sent.{askedTimes, askedInTurn};
 use crate::progress::Progress;
 use crate::progress::say_end;
@@ -17,7 +17,7 @@ use mover::step::Stepped;
 use mover::step::step;
 use planning::Plan;
 use planning::state::State;
-use running::total_steps;
+use totals::total_steps;
 
 // The state that an answer hands back.
 fn state_of(answer: Stepped) -> State

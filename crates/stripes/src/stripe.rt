@@ -76,7 +76,7 @@ pub fn read_step(memory: &mut [u8], area: &[u8], g: Geometry, load: u64, tier: u
 }
 
 // The blank of a load's tier: its places in memory are filled with zero, and from there, on each drive, one block of the area.
-// Copied so, a blank costs no more than a read; with the block filled by itself it costs more (docs/SPEED.md).
+// Copied so, a blank costs no more than a read, but for small blocks, where it is some nanoseconds dearer; with the block filled by itself it costs more (docs/SPEED.md).
 pub fn blank_step(area: &mut [u8], memory: &mut [u8], g: Geometry, load: u64, tier: u64)
     requires { ⌜ ReadReady g load tier (now area) (now memory) ⌝ }
     ensures { λ _. ⌜ (now (area .exit) ≡ zeroed (blankTakes g load tier) (g .r) (now (area .entry)))

@@ -10,7 +10,7 @@ use bank::Step;
 use bank::power;
 use planning::Phase;
 use planning::Plan;
-use running::phases;
+use totals::phases;
 
 // How a plan's step numbers are taken apart: the steps of a phase, of a memoryload, of a pass.
 pub struct Pace {

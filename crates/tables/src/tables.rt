@@ -23,8 +23,8 @@ use bank::power;
 use elimination::questions::inverse_columns;
 use matrix::rows::apply;
 use matrix::vector::sum;
-use plan::store::pass_rows;
 use planning::Plan;
+use store::pass_rows;
 
 // The pace of the plan's steps; the pass's rows and complement; the columns of the inverse of its low m by m part; what the
 // pass makes of those, in blocks.

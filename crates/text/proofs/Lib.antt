@@ -1,2 +1,3 @@
 pub mod Decimals
 pub mod RowLines
+pub mod LineEnds

@@ -55,6 +55,10 @@ length-row-lines n (v ∷ vs) =
     length-append (line (bits n v)) (rowLines n vs)
     ∙ omega (arith, length-line n v, length-row-lines n vs, suc-mul (length vs) (n + 1))
 
+-- n rows and one more of n characters
+pub square-long : (n : ℕ) (rows : List ℕ) → length rows ≡ n → length (rowLines n rows) + (n + 1) ≡ (n + 1) * (n + 1)
+square-long n rows long = omega (arith, rw long at (length-row-lines n rows), rw (← add-one n) at (suc-mul n (n + 1)))
+
 -- as many rows have as many characters
 pub same-length : (n : ℕ) (vs ws : List ℕ) → length vs ≡ length ws → length (rowLines n vs) ≡ length (rowLines n ws)
 same-length n vs ws e = cc (length-row-lines n vs, length-row-lines n ws)

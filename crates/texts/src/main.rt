@@ -3,11 +3,11 @@ use libc::STDOUT_FILENO;
 use listing::ROOM;
 use listing::list_plan;
 use listing::listing_size;
-use listing::refusal::REFUSAL;
-use listing::refusal::write_refusal;
 use plan::make::make_plan;
 use reading::read_order;
 use reading::text_room;
+use writing::refusal::REFUSAL;
+use writing::refusal::write_refusal;
 
 fn answer(text: &[u8]) {
     let read = read_order(text);

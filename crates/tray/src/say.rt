@@ -1,8 +1,8 @@
 // The lines on standard error.
 use bank::Address;
 use libc::STDERR_FILENO;
-use listing::refusal::REFUSAL;
-use listing::refusal::write_refusal;
+use writing::refusal::REFUSAL;
+use writing::refusal::write_refusal;
 
 fn words(w: &[u8]) {
     io::write_all(STDERR_FILENO, w);

@@ -9,13 +9,13 @@ use crate::spent::zeros;
 use delivery::Delivery;
 use delivery::deliver;
 use libc::STDOUT_FILENO;
-use listing::refusal::REFUSAL;
-use listing::refusal::write_refusal;
 use reading::text_room;
 use sending::progress::Progress;
 use words::Word;
 use words::is_word;
 use words::read_number;
+use writing::refusal::REFUSAL;
+use writing::refusal::write_refusal;
 
 // The most bytes of a run and of its memory, and a run with one byte by which to see that more came.
 const AREA: usize = 65536;

@@ -14,7 +14,7 @@ use order::Order;
 use planning::Plan;
 use planning::state::State;
 use running::can_run;
-use running::total_steps;
+use totals::total_steps;
 use trial::geometry;
 
 // The last address of a bank with n = 32, and one more.
@@ -95,7 +95,7 @@ pub(crate) fn made() {
 
 // A plan whose passes leave every record at its address.
 fn still(g: Geometry, count: u32) -> Plan {
-    let mut p = plan::store::empty_plan();
+    let mut p = store::empty_plan();
     let n = g.n as usize;
     if ROWS < n {
         return p;

@@ -1,10 +1,10 @@
 // The trial orders on geometry, form and addresses.
 use crate::say;
+use addresses::Source;
+use addresses::source_of;
+use addresses::target_of;
 use bank::Address;
 use order::Order;
-use order::address::Source;
-use order::address::source_of;
-use order::address::target_of;
 use trial::exchange;
 use trial::geometry;
 use trial::gray;

@@ -6,8 +6,8 @@ use plan::make::make_plan;
 use planning::Plan;
 use planning::state::State;
 use running::can_run;
-use running::result_area;
-use running::total_steps;
+use totals::result_area;
+use totals::total_steps;
 
 // Number, passes, steps, result area and z, where the plan blanks or doesn't; and whether it says so.
 pub(crate) fn planned_so(asked: &[u8], o: Order, blanks: bool) -> bool {
@@ -76,7 +76,7 @@ pub(crate) fn judged() {
     runs(b"reversal, next 0", reversal(), 0);
     runs(b"reversal, next 24", reversal(), 24);
     runs(b"reversal, next 25", reversal(), 25);
-    runs(b"the empty plan", plan::store::empty_plan(), 0);
+    runs(b"the empty plan", store::empty_plan(), 0);
     let mut p = reversal();
     p.geometry.m = 4;
     runs(b"m = n", p, 0);
@@ -118,7 +118,7 @@ pub(crate) fn judged_more() {
 
 // The reversal as one pass: nonsingular, and it spills.
 pub(crate) fn spilling() {
-    let mut p = plan::store::empty_plan();
+    let mut p = store::empty_plan();
     p.geometry = trial::geometry(4, 1, 1, 2, 8);
     p.count = 1;
     p.rows[0] = 8;

@@ -5,7 +5,7 @@ use mathlib.Core.List.{List}
 use Prim.Native.Nat.{ℕ}
 use Rattle.order.proofs.Accepted.{judgement→accepted}
 use Rattle.moving.specs.Step.{Buffers, buffersOf}
-use Rattle.running.specs.Total.{resultArea}
+use Rattle.totals.specs.Total.{resultArea}
 use Rattle.delivery.proofs.InOrder.{SetBy, sent-set}
 use Rattle.delivery.specs.Delivery.{takenFrom}
 use borrow.Author.Needs.{needs}

@@ -8,10 +8,10 @@ use lib.ListN.{length}
 use Rattle.planning.specs.declared.Plan.{Plan}
 use Rattle.planning.specs.Pass.{total}
 use Rattle.planning.specs.Stored.{routeOf}
-use Rattle.running.specs.Total.{resultArea}
+use Rattle.totals.specs.Total.{resultArea}
 use Rattle.running.proofs.Judging.{sound-total}
 use Rattle.listing.specs.Listing.{passesWord, stepsWord, resultWord, headLines}
-use Rattle.listing.proofs.Put.{wrote-fits, wrote-three, same-size, wrote-as}
+use Rattle.writing.proofs.Put.{wrote-fits, wrote-three, same-size, wrote-as}
 use Rattle.listing.proofs.Passes.{passesLine, stepsLine, resultLine, head-long}
 use Rattle.listing.proofs.put_head.Statement.{statement}
 use Rattle.listing.proofs.put_head.Tie as tie

@@ -6,7 +6,7 @@ use borrow.Author.Needs.{needs}
 use lib.ListN.{length, take}
 use Rattle.text.specs.Lines.{line, decimal, rowLines}
 use Rattle.listing.specs.Listing.{passWord, passLines}
-use Rattle.listing.proofs.Put.{wrote-three, wrote-fits}
+use Rattle.writing.proofs.Put.{wrote-three, wrote-fits}
 use Rattle.listing.proofs.Passes.{pass-parts, pass-parts-long}
 use Rattle.listing.proofs.put_pass.Statement.{statement}
 use Rattle.listing.proofs.put_pass.Tie as tie

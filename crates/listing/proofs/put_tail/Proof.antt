@@ -5,8 +5,9 @@ use native.Mathlib.Omega.{arith}
 use borrow.Author.Needs.{needs}
 use lib.ListN.{length}
 use Rattle.planning.proofs.Running.{sound-allowed, sound-few}
-use Rattle.listing.specs.Written.{Wrote, passAtLines}
-use Rattle.listing.proofs.Put.{wrote-none, wrote-more, wrote-length, wrote-fits}
+use Rattle.listing.specs.Passes.{passAtLines}
+use Rattle.writing.specs.Written.{Wrote}
+use Rattle.writing.proofs.Put.{wrote-none, wrote-more, wrote-length, wrote-fits}
 use Rattle.listing.proofs.Passes.{upTo, up-to-none, up-to-more, up-to-longer, up-to-short, up-to-all}
 use Rattle.listing.proofs.put_tail.Statement.{statement}
 use Rattle.listing.proofs.put_tail.Tie as tie

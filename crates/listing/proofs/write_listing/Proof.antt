@@ -8,7 +8,7 @@ use lib.ListN.{length}
 use borrow.Author.Tests.{not-true, not-false}
 use Rattle.planning.specs.Running.{sound}
 use Rattle.listing.specs.Listing.{listing, headLines, tailLines}
-use Rattle.listing.proofs.Put.{wrote-more, wrote-fits}
+use Rattle.writing.proofs.Put.{wrote-more, wrote-fits}
 use Rattle.listing.proofs.Passes.{listing-parts, listing-long, listing-fits, no-room, nothing-listed, listed-whole}
 use Rattle.listing.proofs.write_listing.Statement.{statement}
 use Rattle.listing.proofs.write_listing.Tie as tie

@@ -2,7 +2,8 @@
 use mathlib.Core.Path.{sym, _∙_}
 use native.Mathlib.Omega.{arith}
 use borrow.Author.Needs.{needs}
-use Rattle.running.proofs.Judging.{size-allowed, size-few, singular-passes-asked, spilling-passes-asked}
+use Rattle.totals.proofs.Total.{size-allowed, size-few}
+use Rattle.running.proofs.Judging.{singular-passes-asked, spilling-passes-asked}
 use Rattle.running.proofs.badly_made.Statement.{statement}
 use Rattle.running.proofs.badly_made.Tie as tie
 

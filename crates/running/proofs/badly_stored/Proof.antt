@@ -2,7 +2,8 @@
 use mathlib.Core.Path.{sym, _∙_}
 use native.Mathlib.Omega.{arith}
 use borrow.Author.Needs.{needs}
-use Rattle.running.proofs.Judging.{size-allowed, size-few, stray-rows-asked, stray-complements-asked, spare-rows-asked, spare-complements-asked}
+use Rattle.totals.proofs.Total.{size-allowed, size-few}
+use Rattle.running.proofs.Judging.{stray-rows-asked, stray-complements-asked, spare-rows-asked, spare-complements-asked}
 use Rattle.running.proofs.badly_stored.Statement.{statement}
 use Rattle.running.proofs.badly_stored.Tie as tie
 

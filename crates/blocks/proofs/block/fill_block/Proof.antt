@@ -9,8 +9,8 @@ use Rattle.algebra.specs.Vector.{WORD}
 use Rattle.blocks.proofs.Filled.{filled, filled-all, filled-none, filled-once}
 use Rattle.algebra.proofs.Digits.{share}
 use Rattle.moving.proofs.Bytes.{length-copied}
-use Rattle.blocks.proofs.Places.{place-next, place-zero}
-use Rattle.blocks.specs.Places.{placeBy}
+use Rattle.algebra.proofs.Carry.{place-next, place-zero}
+use Rattle.algebra.specs.Carry.{placeBy}
 use Rattle.blocks.proofs.block.fill_block.Statement.{statement}
 use Rattle.blocks.proofs.block.fill_block.Tie as tie
 

@@ -5,7 +5,7 @@ use native.Mathlib.Omega.{arith}
 use lib.ListN.{length}
 use Rattle.blocks.proofs.Drives.{block-back, pos-right}
 use Rattle.bytes.proofs.Parts.{length-part, part}
-use Rattle.blocks.specs.Places.{placeBy}
+use Rattle.algebra.specs.Carry.{placeBy}
 use borrow.Author.Needs.{needs}
 use Rattle.blocks.proofs.moves.write_block.Statement.{statement}
 use Rattle.blocks.proofs.moves.write_block.Tie as tie

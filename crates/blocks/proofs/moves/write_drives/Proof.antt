@@ -7,8 +7,8 @@ use lib.ListN.{length}
 use Rattle.algebra.specs.Vector.{WORD}
 use Rattle.moving.proofs.Bytes.{length-copied}
 use Rattle.blocks.proofs.Drives.{drivesDone, drives-all, drives-none, drives-once}
-use Rattle.blocks.proofs.Places.{place-next, place-zero}
-use Rattle.blocks.specs.Places.{placeBy}
+use Rattle.algebra.proofs.Carry.{place-next, place-zero}
+use Rattle.algebra.specs.Carry.{placeBy}
 use Rattle.blocks.proofs.moves.write_drives.Statement.{statement}
 use Rattle.blocks.proofs.moves.write_drives.Tie as tie
 

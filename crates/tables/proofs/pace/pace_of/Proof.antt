@@ -5,7 +5,7 @@ use lib.ListN.{length}
 use Rattle.bank.specs.Geometry.{records, tiers}
 use Rattle.bank.specs.Limits.{ROWS}
 use Rattle.moving.proofs.Numbers.{stripe-pos}
-use Rattle.running.proofs.Judging.{few-phases, phases-small, records-small, stripe-small}
+use Rattle.totals.proofs.Total.{few-phases, phases-small, records-small, stripe-small}
 use Rattle.planning.specs.Pass.{loadSteps, passSteps, phases}
 use Rattle.planning.specs.Stored.{routeOf}
 use Rattle.tables.proofs.Sizes.{tiers-small}

@@ -1,0 +1,3 @@
+-- What is proved of addresses both ways.
+pub mod Asked
+pub mod Main
