@@ -1,4 +1,6 @@
 // Where does an order send an address, and where does one come from?
+#![tactic(auto)]
+
 ghost use Rattle.std.specs.Prelude.{◌≡◌};
 ghost use Rattle.addresses.specs.Address.{question_number, target_of, meaning_of, found_for};
 ghost use Rattle.order.specs.Order.{with_z};
@@ -7,7 +9,7 @@ use bank::Address;
 use order::{Order, Verdict, form_number, judge, refuse};
 
 // Where an address goes: the number, and the address that it goes to, 0 where refused. With 3, z; 0 with every other number.
-#[derive(Drop)]
+#[derive(Clone, Copy)]
 pub struct Target {
     pub number: u8,
     pub address: Address,
@@ -15,7 +17,7 @@ pub struct Target {
 }
 
 // Where an address comes from, or the number of the refusal and its z.
-#[derive(Drop)]
+#[derive(Clone, Copy)]
 pub enum Source {
     From(Address),
     Refused(u8, Address),

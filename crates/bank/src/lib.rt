@@ -1,5 +1,7 @@
 // The bank of drives: the limits, and the kinds of numbers that the calls exchange.
 // The limits stand here for the code and in specs/Limits.antt for the definitions, and nowhere else.
+#![tactic(auto)]
+
 ghost use Rattle.std.specs.Prelude.{◌≡◌, ◌<◌, ◌^◌};
 ghost use Rattle.bank.specs.Geometry.{in_limits};
 
@@ -19,7 +21,7 @@ const BYTES: u32 = 256;
 pub const WORD: u32 = 32;
 
 // 2^n records in blocks of 2^b on 2^d drives, a memory of 2^m records, records of r bytes.
-#[derive(Drop)]
+#[derive(Clone, Copy)]
 pub struct Geometry {
     pub n: u32,
     pub b: u32,
@@ -29,15 +31,15 @@ pub struct Geometry {
 }
 
 // A record's address in an area.
-#[derive(Drop)]
+#[derive(Clone, Copy)]
 pub struct Address(pub u64);
 
 // A step's number in a plan.
-#[derive(Drop)]
+#[derive(Clone, Copy)]
 pub struct Step(pub u64);
 
 // A block's number in an area.
-#[derive(Drop)]
+#[derive(Clone, Copy)]
 pub struct Block(pub u64);
 
 // Whether the geometry is inside the limits. No sum is taken that could wrap.

@@ -1,5 +1,7 @@
 // Is the mover of which the demands speak the one that the code is? Each call once more, with the promise of `ours`.
 // None of these is called: that they are proved, with nothing written for it, is their use.
+#![tactic(auto)]
+
 ghost use Rattle.std.specs.Prelude.{◌≡◌};
 ghost use Rattle.moving.specs.Step.{buffers_of};
 ghost use Rattle.moving.specs.Call.{lent};

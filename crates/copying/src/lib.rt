@@ -1,4 +1,6 @@
 // Copies of bytes, and zero bytes.
+#![tactic(auto)]
+
 pub mod look; // look.rt: is every byte zero?
 
 ghost use Rattle.std.specs.Prelude.{◌≡◌, ◌+◌, ◌≤◌, length, replicate};

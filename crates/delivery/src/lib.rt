@@ -1,4 +1,6 @@
 // A run is set in tray order on lent bytes: its order text is read, planned, and every step of the plan sent.
+#![tactic(auto)]
+
 ghost use Rattle.std.specs.Prelude.{◌≡◌, true, length};
 ghost use Rattle.bank.specs.Limits.{ROWS};
 ghost use Rattle.bank.specs.Geometry.{in_limits};
@@ -16,7 +18,7 @@ use sending::send_all;
 use totals::result_area;
 
 // Done; refused by a number, and z with 3, 0 with every other; or the run, of so many bytes, has no room in the buffers.
-#[derive(Drop)]
+#[derive(Clone, Copy)]
 pub enum Delivery {
     Done,
     Refused(u8, Address),

@@ -1,1 +1,2 @@
 // The three demands, stated and proved: specs/ says them, proofs/ proves them. No code.
+#![tactic(auto)]

@@ -1,5 +1,7 @@
 // drill: two lessons and a question round for those who will send the steps. drill ORDER: a question round on the order text in the file ORDER.
 // What finds, judges, moves and marks is in the crates below; here are the words of the lessons, and the wrong mover that they warn of.
+#![tactic(auto)]
+
 mod say; // say.rt: words, numbers and bits on standard output
 mod wrong; // wrong.rt: THE WRONG MOVER, for the first lesson alone
 mod late; // late.rt: the first lesson, the late answer

@@ -12,7 +12,7 @@ use order::Order;
 const LINE: usize = 80;
 
 // What became of a question.
-#[derive(Drop)]
+#[derive(Clone, Copy)]
 enum Asked {
     Right,
     Wrong,

@@ -11,7 +11,7 @@ use bank::ROWS;
 use matrix::vector::{bit_of, power, unless_zero};
 
 // The entries so far: a vector, one set bit of it, and the columns of which it is the sum.
-#[derive(Drop)]
+#[derive(Clone, Copy)]
 pub struct Echelon {
     pub vectors: [u32; ROWS],
     pub pivots: [u32; ROWS],
@@ -20,7 +20,7 @@ pub struct Echelon {
 }
 
 // What is left of a vector, and the columns that were added to it.
-#[derive(Drop)]
+#[derive(Clone, Copy)]
 pub struct Reduced {
     pub left: u32,
     pub tag: u32,

@@ -10,14 +10,14 @@ use matrix::rows::{apply_part, columns};
 use matrix::vector::power;
 
 // The least nonzero vector that a matrix sends to zero, 0 where there is none; and the entries of all its columns where there is none.
-#[derive(Drop)]
+#[derive(Clone, Copy)]
 struct Swept {
     kernel: u32,
     entries: Echelon,
 }
 
 // The least nonzero vector that a matrix sends to zero and, where there is none, the source of an address; 0 in place of either.
-#[derive(Drop)]
+#[derive(Clone, Copy)]
 pub struct Solved {
     pub kernel: u32,
     pub source: u32,

@@ -1,4 +1,6 @@
 // Lists of targets are read as text, and what is found of one is written.
+#![tactic(auto)]
+
 pub mod answer; // answer.rt: the matrix and complement of a list
 
 ghost use Rattle.std.specs.Prelude.{◌≤◌, length};
@@ -11,21 +13,21 @@ use words::{Word, read_number};
 const LF: u8 = 10;
 
 // The number and, where the list is taken, how many entries it has; 0 where refused.
-#[derive(Drop)]
+#[derive(Clone, Copy)]
 pub struct Entries {
     pub number: u8,
     pub count: usize,
 }
 
 // An entry and the place past its line.
-#[derive(Drop)]
+#[derive(Clone, Copy)]
 enum Entry {
     Value(u64, usize),
     Bad,
 }
 
 // Whether a text is that of a list, and then how many entries it has.
-#[derive(Drop)]
+#[derive(Clone, Copy)]
 struct Counted {
     good: bool,
     count: usize,

@@ -1,4 +1,6 @@
 // What the lessons find and mark: where a key lies, and whether an answer is right.
+#![tactic(auto)]
+
 ghost use Rattle.std.specs.Prelude.{◌≡◌, ◌&&◌, eqb, leb, length, get_or};
 ghost use Rattle.algebra.specs.Search.{least};
 ghost use Rattle.lessons.specs.Mark.{Marked};
@@ -9,7 +11,7 @@ use order::Order;
 use words::{Word, read_number};
 
 // Right, wrong, or a question that can't be asked of this order: its number and z.
-#[derive(Drop)]
+#[derive(Clone, Copy)]
 pub enum Mark {
     Right,
     Wrong,

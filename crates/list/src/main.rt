@@ -1,4 +1,6 @@
 // Reads an order text from standard input, and writes the listing of its plan, or one line that refuses it.
+#![tactic(auto)]
+
 use addresses::{Source, source_of};
 use bank::Address;
 use libc::{STDIN_FILENO, STDOUT_FILENO};

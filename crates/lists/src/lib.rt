@@ -1,4 +1,6 @@
 // Is a list of targets an order's, and which matrix and complement give it?
+#![tactic(auto)]
+
 mod apart; // apart.rt: the entries against the only matrix and complement that can give them
 
 ghost use Rattle.std.specs.Prelude.{◌≡◌, ◌++◌, ◌-◌, ◌≤◌, length, replicate};
@@ -11,7 +13,7 @@ use bank::{Address, ROWS};
 use matrix::rows::columns;
 
 // The number; n, the rows of A and c, zero everywhere where refused. With 3, the least nonzero address z that A sends to zero; 0 with every other number.
-#[derive(Drop)]
+#[derive(Clone, Copy)]
 pub struct Recognised {
     pub number: u8,
     pub n: u32,

@@ -1,5 +1,7 @@
 // Matrices over GF(2) as arrays of rows, a word each.
 // A row is a number whose bit j is its entry in column j. The functions take rows with room for ROWS of them and say how many count.
+#![tactic(auto)]
+
 pub mod vector; // vector.rt: bits, parities, sums
 pub mod carry; // carry.rt: what a sum of columns changes by from one number to the next
 pub mod rows; // rows.rt: a matrix applied to an address, its columns, products

@@ -16,7 +16,7 @@ use tables::tables::{Tables, tables_of};
 use totals::total_steps;
 
 // The number, the steps that were done, and the state that follows.
-#[derive(Drop)]
+#[derive(Clone, Copy)]
 pub struct Ran {
     pub number: u8,
     pub count: u64,

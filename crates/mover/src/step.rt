@@ -18,7 +18,7 @@ use tables::tables::tables_of;
 use totals::total_steps;
 
 // Done, done again (9), or refused by a number; each with the state that follows.
-#[derive(Drop)]
+#[derive(Clone, Copy)]
 pub enum Stepped {
     Done(State),
     Again(State),

@@ -82,13 +82,13 @@ module _ (route : Route) (v₀ : Buffers) where
     -- what pass k does
     its_pass : (k : ℕ) → k < length route.passes → Reached k (before_pass route v₀ k)
         → PassDone route (source_of g (pass_at route k)) k (before_pass route v₀ k) (before_pass route v₀ (suc k))
-    its_pass k h was = pass_done route ok k v₀ (source_in g (pass_at route k) (runs k h)) was.here-long was.other-long was.memory_long
+    its_pass k h was = pass_done route ok k v₀ (source_in g (pass_at route k) (runs k h)) was.here_long was.other_long was.memory_long
 
     reached_next : (k : ℕ) → k < length route.passes → Reached k (before_pass route v₀ k) → Reached (suc k) (before_pass route v₀ (suc k))
     reached_next k h was =
         record {
-          here_long = ap (λ (a : Area). length (bytes_of a w)) (read_next k) ∙ done.long ∙ was.other-long;
-          other_long = ap (λ (a : Area). length (bytes_of a w)) (written_next k) ∙ done.reads_long ∙ was.here-long;
+          here_long = ap (λ (a : Area). length (bytes_of a w)) (read_next k) ∙ done.long ∙ was.other_long;
+          other_long = ap (λ (a : Area). length (bytes_of a w)) (written_next k) ∙ done.reads_long ∙ was.here_long;
           memory_long = done.memory_long;
           in_area = λ x hx. subst (λ (y : ℕ). y < records g) (sym (more k h x)) (target_in g q (runs k h) (place k x));
           bytes = λ x j hx hj.
@@ -141,7 +141,7 @@ module _ (route : Route) (v₀ : Buffers) where
         ap₂ (λ (i : ℕ) (l : List Pass). record_of g.r (bytes_of (area_read count) (moves_from (move route) 0 i v₀)) (performed l x))
         (mul_comm (pass_steps route) count) (sym (take-length route.passes))
         ∙ same_record g.r (bytes_of (area_read count) (before_pass route v₀ count)) v₀.area0 (records g)
-        (place count x) x end.here-long fits.area0_long (end.in_area x hx) hx (λ j hj. end.bytes x j hx hj)
+        (place count x) x end.here_long fits.area0_long (end.in_area x hx) hx (λ j hj. end.bytes x j hx hj)
       where
         count : ℕ
         count = length route.passes

@@ -1,4 +1,6 @@
 // An order: a matrix and a complement for a bank of drives, and its judgement.
+#![tactic(auto)]
+
 pub mod form; // form.rt: stray bits, and places meant to be zero
 
 ghost use Rattle.std.specs.Prelude.{◌≡◌, ◌≤◌};
@@ -10,7 +12,7 @@ use crate::form::{spare, stray};
 use bank::{Address, Geometry, ROWS};
 
 // The order sends address x to Ax xor c: `rows` has the rows of A, `complement` is c.
-#[derive(Drop)]
+#[derive(Clone, Copy)]
 pub struct Order {
     pub geometry: Geometry,
     pub rows: [u32; ROWS],
@@ -18,7 +20,7 @@ pub struct Order {
 }
 
 // The judgement of an order: the number and, with 3, the least nonzero address z that A sends to zero; 0 with every other number.
-#[derive(Drop)]
+#[derive(Clone, Copy)]
 pub struct Verdict {
     pub number: u8,
     pub z: Address,

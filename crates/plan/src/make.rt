@@ -16,7 +16,7 @@ use rounds::{is_busy, round};
 use store::{empty_plan, no_passes, with_pass};
 
 // The number of a planning call, and its plan: the empty plan where refused. With 3, z; 0 with every other number.
-#[derive(Drop)]
+#[derive(Clone, Copy)]
 pub struct Planned {
     pub number: u8,
     pub plan: Plan,

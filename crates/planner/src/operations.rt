@@ -15,7 +15,7 @@ use matrix::rows::{columns, product};
 use matrix::vector::{power, unless_zero};
 
 // The columns of A P and of P.
-#[derive(Drop)]
+#[derive(Clone, Copy)]
 pub struct Operated {
     pub cols: [u32; ROWS],
     pub p: [u32; ROWS],

@@ -7,7 +7,7 @@ use bank::Step;
 // The largest number that a step can have.
 const LAST: u64 = 18446744073709551615;
 
-#[derive(Drop)]
+#[derive(Clone, Copy)]
 pub struct State {
     pub next: Step,
 }

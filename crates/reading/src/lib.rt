@@ -1,4 +1,6 @@
 // Order texts are read, on slices.
+#![tactic(auto)]
+
 mod number; // number.rt: numbers at a place of a text, and the first line
 mod rows; // rows.rt: rows of bits at a place of a text
 
@@ -17,7 +19,7 @@ use order::Order;
 const TEXT: usize = 20 + (ROWS + 1) * (ROWS + 1) + 1;
 
 // The number, and the order: zero everywhere where refused. With 3, z; 0 with every other number.
-#[derive(Drop)]
+#[derive(Clone, Copy)]
 pub struct Read {
     pub number: u8,
     pub order: Order,

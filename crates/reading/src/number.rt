@@ -5,14 +5,14 @@ ghost use Rattle.reading.specs.Parsing.{digit_of, digit_at, number_at, field_at,
 use bank::Geometry;
 
 // A number and the place past it.
-#[derive(Drop)]
+#[derive(Clone, Copy)]
 pub(crate) enum Parsed {
     Value(u32, usize),
     Bad,
 }
 
 // The geometry of a first line and the place past it.
-#[derive(Drop)]
+#[derive(Clone, Copy)]
 pub(crate) enum FirstLine {
     Of(Geometry, usize),
     Unread,

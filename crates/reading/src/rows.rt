@@ -7,7 +7,7 @@ use crate::number::{Parsed, digit_at};
 use bank::ROWS;
 
 // Rows, and the place past their lines, where they are good.
-#[derive(Drop)]
+#[derive(Clone, Copy)]
 pub(crate) struct Rows {
     pub good: bool,
     pub rows: [u32; ROWS],

@@ -1,4 +1,6 @@
 // Reads a list of targets from standard input, and writes n and the matrix and complement that give it, or one line that refuses it.
+#![tactic(auto)]
+
 use bank::Address;
 use entries::answer::{FOUND, write_found};
 use entries::read_entries;

@@ -1,4 +1,6 @@
 // The rounds of planning, step 3, on arrays of columns.
+#![tactic(auto)]
+
 ghost use Rattle.std.specs.Prelude.{◌≡◌, ◌++◌, ◌<◌, ◌≤◌, ◌-◌, take, replicate};
 ghost use Rattle.bank.specs.Limits.{ROWS};
 ghost use Rattle.algebra.specs.Search.{least_from};
@@ -13,7 +15,7 @@ use matrix::vector::power;
 use planner::columns::lower;
 
 // The columns of a round's pass, E S, and of what is left.
-#[derive(Drop)]
+#[derive(Clone, Copy)]
 pub struct Rounded {
     pub pass: [u32; ROWS],
     pub cols: [u32; ROWS],

@@ -1,5 +1,7 @@
 // Sends steps and runs of the trial orders on lent bytes, and writes what the calls answer and leave, a line for each; the file stdout has what
 // they must be.
+#![tactic(auto)]
+
 mod say; // say.rt: a line of output
 mod steps; // steps.rt: steps and runs on lent bytes
 mod still; // still.rt: an order that leaves every record where it is

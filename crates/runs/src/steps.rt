@@ -155,7 +155,7 @@ pub(crate) fn one_write() {
 }
 
 // What there is between two calls in G: the buffers, and the state.
-#[derive(Drop)]
+#[derive(Clone, Copy)]
 pub(crate) struct Moment {
     pub(crate) area0: [u8; AREA],
     pub(crate) area1: [u8; AREA],

@@ -1,4 +1,6 @@
 // The steps of a plan are sent in turn, each so many times more.
+#![tactic(auto)]
+
 pub mod progress; // progress.rt: what is said while the steps are sent
 
 ghost use Rattle.std.specs.Prelude.{◌≡◌, ◌<◌, ◌+◌};

@@ -4,7 +4,7 @@ ghost use Rattle.std.specs.Prelude.{◌<◌};
 use libc::STDERR_FILENO;
 
 // Nothing, a line for each pass, or one line that is written over.
-#[derive(Drop)]
+#[derive(Clone, Copy)]
 pub enum Progress {
     Silent,
     Lines,

@@ -1,4 +1,6 @@
 // Plans as they are stored: empty, a pass put in, a pass taken out.
+#![tactic(auto)]
+
 ghost use Rattle.std.specs.Prelude.{◌≡◌, [], ◌<◌, ◌*◌, take, drop};
 ghost use Rattle.bank.specs.Limits.{ROWS, PASSES};
 ghost use Rattle.planning.specs.Stored.{empty_plan, plan_of};

@@ -10,7 +10,7 @@ use bank::{Block, Geometry, power};
 use copying::{clear_part, copy_part};
 
 // Where a load's tier lies: its first block in the area and in memory, the bytes of a block, and the drives.
-#[derive(Drop)]
+#[derive(Clone, Copy)]
 struct Stripe {
     first: Block,
     place: Block,

@@ -10,7 +10,7 @@ use planning::{Phase, Plan};
 use totals::phases;
 
 // How a plan's step numbers are taken apart: the steps of a phase, of a memoryload, of a pass.
-#[derive(Drop)]
+#[derive(Clone, Copy)]
 pub struct Pace {
     pub phase: u64,
     pub load: u64,
@@ -18,7 +18,7 @@ pub struct Pace {
 }
 
 // Where in its pass a step stands: its memoryload, its phase there, and which tier of its load.
-#[derive(Drop)]
+#[derive(Clone, Copy)]
 pub struct Standing {
     pub load: u64,
     pub phase: Phase,

@@ -20,7 +20,7 @@ use store::pass_rows;
 
 // The pace of the plan's steps; the pass's rows and complement; the columns of the inverse of its low m by m part; what the
 // pass makes of those, in blocks.
-#[derive(Drop)]
+#[derive(Clone, Copy)]
 pub struct Tables {
     pub geometry: Geometry,
     pub pace: Pace,

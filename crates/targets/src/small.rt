@@ -7,7 +7,7 @@ use std::num::wrapping_add_u64;
 use trial::{gray, identity, in_g, reversal};
 
 // How often each number was given: 0, 3, 12, 11.
-#[derive(Drop)]
+#[derive(Clone, Copy)]
 struct Tally {
     taken: u64,
     singular: u64,

@@ -1,4 +1,6 @@
 // Reads the order texts that the arguments name, and writes for each its name and what `list` would write.
+#![tactic(auto)]
+
 use libc::STDOUT_FILENO;
 use listing::{ROOM, list_plan, listing_size};
 use plan::make::make_plan;

@@ -1,4 +1,6 @@
 // How many steps has a plan, and where does its result lie?
+#![tactic(auto)]
+
 ghost use Rattle.std.specs.Prelude.{◌≡◌, ◌&&◌, length};
 ghost use Rattle.bank.specs.Geometry.{in_limits};
 ghost use Rattle.planning.specs.Pass.{phases};

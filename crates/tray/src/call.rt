@@ -2,7 +2,7 @@
 use words::{Word, is_word, read_number};
 
 // How often each step is sent again, and whether the spent area is blanked; or what is wrong with the call.
-#[derive(Drop)]
+#[derive(Clone, Copy)]
 pub(crate) enum Asked {
     Times(u64, bool),
     Missing,

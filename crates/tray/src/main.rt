@@ -1,6 +1,8 @@
 // tray ORDER [AGAIN] [blank] < RECORDS > TRAYS: the order text in the file ORDER, the run on standard input, and the run in tray order on
 // standard output. With `blank` the spent area is blanked, and what is left of the run is looked for.
 // What decides is `delivery::deliver`; here are the words, the files and the buffers.
+#![tactic(auto)]
+
 mod say; // say.rt: the lines on standard error
 mod call; // call.rt: the words of the call
 

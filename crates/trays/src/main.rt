@@ -1,6 +1,8 @@
 // Makes the deliveries that the arguments name, four words each: an order text, a run, how often each step is sent again, and `blank` where the
 // spent area is to be blanked or `keep` where it isn't.
 // Writes for each its words, and then the run in tray order, or the line that says why there is none; after a run with `blank`, how much is zero.
+#![tactic(auto)]
+
 mod spent; // spent.rt: the other area and the memory, before a delivery and after it
 
 ghost use Rattle.io.specs.Counts.{IsPrefixLen};

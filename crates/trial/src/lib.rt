@@ -1,4 +1,6 @@
 // The orders that the trials ask about by name, and others like them.
+#![tactic(auto)]
+
 ghost use Rattle.std.specs.Prelude.{◌≡◌};
 ghost use Rattle.trial.specs.Orders.{G, exchange_order, four_rows, gray_order, identity_order, largest_order, reversal_order, small_order, two_rows};
 

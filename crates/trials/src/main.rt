@@ -1,4 +1,6 @@
 // Asks about the trial orders and their plans, and writes what the calls answer, a line for each; the file stdout has what they must be.
+#![tactic(auto)]
+
 mod say; // say.rt: a line of output
 mod orders; // orders.rt: geometry, form and addresses
 mod plans; // plans.rt: plans made, and plans judged

@@ -1,4 +1,6 @@
 // Is a word a number, and which? Is it the one that is wanted?
+#![tactic(auto)]
+
 ghost use Rattle.std.specs.Prelude.{◌≡◌, true, ◌↔◌};
 ghost use Rattle.words.specs.Digit.{DigitOf};
 ghost use Rattle.words.specs.Says.{Says};
@@ -7,7 +9,7 @@ ghost use Rattle.words.specs.Says.{Says};
 const DIGITS: usize = 10;
 
 // A number, or another word.
-#[derive(Drop)]
+#[derive(Clone, Copy)]
 pub enum Word {
     Number(u64),
     Other,

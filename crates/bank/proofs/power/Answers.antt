@@ -1,0 +1,12 @@
+-- `bank::power` meets its contract: 1 moved up k places loses no bit. Assumes nothing.
+use mathlib.Core.Path.{◌∙◌}
+use Prim.Native.Nat.{◌^◌}
+use native.Mathlib.Nat.{one-mul}
+use native.Mathlib.Omega.{arith}
+use borrow.Author.Rules.{rules}
+use lib.Dec.{lit<}
+use lib.Pow.{shl_exact}
+use Rattle.bank.proofs.power.Goals as goal
+
+pub returns : goal.returns
+returns c = shl_exact 1 c.args.k 64 (lit< tt) (omega arith) ∙ one-mul (2 ^ c.args.k)

@@ -1,0 +1,17 @@
+-- `delivery::memory_bytes` meets its contract: the product fits. Assumes nothing.
+use mathlib.Core.Path.{◌≡◌}
+use Prim.Native.Nat.{◌*◌, ◌^◌}
+use Rattle.tables.proofs.Sizes.{memory_fits}
+use borrow.Author.Rules.{rules}
+use Rattle.bank.proofs.Limits.{limits, limits→allowed}
+use Rattle.delivery.proofs.memory_bytes.Goals as goal
+
+-- the bytes, as code works them out
+product : (c : goal.After-wide) → c.power.result * c.wide.result ≡ 2 ^ c.args.g.m * c.args.g.r
+product c = rw (c.power.ensures, c.wide.ensures)
+
+pub overflow_mul-result : goal.overflow_mul-result
+overflow_mul-result c = record { fits = rw (product c) (memory_fits (limits→allowed c.args.g c.requires)) }
+
+pub power-requires : goal.power-requires
+power-requires c = search (rules, limits)

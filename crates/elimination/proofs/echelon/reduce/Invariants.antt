@@ -1,0 +1,15 @@
+-- `elimination::echelon::reduce` meets its contract. The loop's invariant: u and s are what is left and what was used after i entries. Assumes nothing.
+use mathlib.Core.Path.{◌≡◌, refl, sym}
+use Prim.Native.Nat.{◌-◌, ◌≤◌}
+use native.Mathlib.Omega.{arith}
+use lib.Bits.{bit_xor, xor_zero_r}
+use borrow.Author.Rules.{rules}
+use Rattle.algebra.specs.Elimination.{rest, used}
+use Rattle.algebra.proofs.Loops.{rest_once, used_once}
+use Rattle.elimination.proofs.echelon.reduce.Given as goal
+
+abbrev pub invariant-loop-i : goal.invariant-loop-i
+invariant-loop-i l = (l.i ≤ l.count) × (l.u ≡ rest l.vectors l.pivots l.i l.v) × (l.s ≡ bit_xor l.t (used l.vectors l.pivots l.tags l.i l.v))
+
+abbrev pub decreases-loop-i : goal.decreases-loop-i
+decreases-loop-i l = l.count - l.i

@@ -1,0 +1,68 @@
+-- `elimination::questions::spills` meets its contract. The loop's invariant: e holds the entries after the first j columns of the middle rows, and below 2^j
+-- the lower rows send to zero all that the middle rows do. Assumes nothing.
+use mathlib.Core.Path.{◌∙◌, ◌≡◌, subst, sym}
+use mathlib.Core.Logic.{⊎_elim, inl, inr}
+use Prim.Native.Nat.{◌-◌, ◌≤◌, ℕ}
+use native.Mathlib.Omega.{arith}
+use lib.ListN.{drop, take}
+use borrow.Author.Rules.{rules}
+use Rattle.bank.specs.Limits.{ROWS}
+use Rattle.elimination.specs.Echelon.{echelon_of}
+use Rattle.algebra.specs.Elimination.{built}
+use Rattle.algebra.proofs.Built.{built_count, built_next}
+use Rattle.algebra.proofs.Questions.{spills_no, spills_yes, through_next}
+use Rattle.algebra.proofs.Spill.{Through, through_zero}
+use Rattle.elimination.proofs.questions.spills.Goals as goal
+
+pub loop-j-init : goal.loop-j-init
+unfolding built
+loop-j-init c =
+    let a = c.args in
+    let mid = take (a.m - a.b) (drop a.b a.rows.now) in
+    (search rules, c.no_entries-e.ensures, through_zero a.m mid (take (a.n - a.m) (drop a.m a.rows.now)))
+
+pub reduce-r-requires : goal.reduce-r-requires
+reduce-r-requires c =
+    let few = built_count ROWS _ _ _ c.loop-j.invariant.1 in
+    omega arith
+
+pub returns-then-apply_part-gt0 : goal.returns-then-apply_part-gt0
+returns-then-apply_part-gt0 c =
+    let s = c in
+    let a = s.args in
+    let k = c.columns-cols in
+    let l = c.loop-j in
+    let p = c.power in
+    let r = c.reduce-r in
+    spills_yes a.rows.now a.b a.m a.n s.requires.0 s.requires.1 ROWS s.requires.2 (omega arith) _ k.ensures
+    l.j _ _ _ _ (search rules) l.invariant.1 r.ensures.0 p.ensures r.ensures.1
+    c.if-left-eq0.true (λ z. omega (arith, c.apply_part.ensures ∙ z, c.if-apply_part-gt0.true))
+
+pub grow-e-requires : goal.grow-e-requires
+grow-e-requires c =
+    let few = built_count ROWS _ _ _ c.loop-j.invariant.1 in
+    (omega arith, search rules)
+
+pub loop-j-preserved : goal.loop-j-preserved
+loop-j-preserved c =
+    let s = c in
+    let a = s.args in
+    let k = c.columns-cols in
+    let l = c.loop-j in
+    let p = c.power in
+    let r = c.reduce-r in (
+      search rules,
+      built_next ROWS _ _ _ _ l.invariant.1 (search rules),
+      through_next a.rows.now a.b a.m a.n s.requires.0 s.requires.1 ROWS s.requires.2 (omega arith) _ k.ensures
+          l.j _ _ _ _ (search rules) l.invariant.1 r.ensures.0 p.ensures r.ensures.1
+          (⊎_elim (λ t. inl (t.0.taken, sym t.1.ensures ∙ omega (arith, t.2.left))) (λ t. inr t.left) c.if-left-eq0.branch) l.invariant.2,
+    )
+
+pub returns : goal.returns
+returns c =
+    let s = c in
+    let a = s.args in
+    let mid = take (a.m - a.b) (drop a.b a.rows.now) in
+    let low = take (a.n - a.m) (drop a.m a.rows.now) in
+    let done : c.loop-j.j ≡ a.m = omega arith in
+    spills_no a.rows.now a.b a.m a.n s.requires.0 s.requires.1 (subst (λ (j : ℕ). Through mid low j) done c.loop-j.invariant.2)

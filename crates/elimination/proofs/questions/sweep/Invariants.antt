@@ -1,0 +1,23 @@
+-- `elimination::questions::sweep` meets its contract. The loop's invariant: e holds the entries after the first j columns, all of them marked.
+-- Assumes nothing.
+use mathlib.Core.Path.{◌∙◌, ◌≡◌, ap, ap₂, sym}
+use mathlib.Core.Bool.{true≢false}
+use Prim.Native.Nat.{◌-◌, ◌≤◌, ℕ}
+use native.Mathlib.Omega.{arith}
+use lib.Bits.{bit_xor}
+use lib.ListN.{get_or, take}
+use borrow.Author.Rules.{rules}
+use Rattle.bank.specs.Limits.{ROWS}
+use Rattle.algebra.specs.Elimination.{built}
+use Rattle.algebra.proofs.Basis.{used_of}
+use Rattle.algebra.proofs.Built.{built_count, built_next}
+use Rattle.algebra.proofs.Loops.{grown_entry}
+use Rattle.algebra.proofs.Questions.{AllMarked, all-marked, columns_whole, kernel_tag, marked_next, none_marked, singular_tag}
+use Rattle.elimination.specs.Echelon.{echelon_of}
+use Rattle.elimination.proofs.questions.sweep.Given as goal
+
+abbrev pub invariant-loop-j : goal.invariant-loop-j
+invariant-loop-j l = (l.j ≤ l.n) × (echelon_of l.e ≡ built ROWS l.cols l.j) × AllMarked l.n (take l.n l.rows) l.j
+
+abbrev pub decreases-loop-j : goal.decreases-loop-j
+decreases-loop-j l = l.n - l.j

@@ -1,0 +1,14 @@
+-- `entries::line_end` meets its contract: no byte passed is LF. Assumes nothing.
+use mathlib.Core.Path.{◌≡◌}
+use Prim.Native.Nat.{ℕ, ◌-◌, ◌<◌, ◌≤◌}
+use native.Mathlib.Omega.{arith}
+use borrow.Author.Count.{below_more}
+use borrow.Author.Rules.{rules}
+use lib.ListN.{get_or, length}
+use Rattle.entries.proofs.line_end.Given as goal
+
+abbrev pub invariant-loop-i : goal.invariant-loop-i
+invariant-loop-i l = (l.at ≤ l.i) × (l.at ≤ length l.text → l.i ≤ length l.text) × ((k : ℕ) → k < l.i → l.at ≤ k → get_or l.text k 0 ≡ 10 → ⊥)
+
+abbrev pub decreases-loop-i : goal.decreases-loop-i
+decreases-loop-i l = length l.text - l.i

@@ -1,0 +1,17 @@
+-- `mover::step::turn_number` meets its contract: the tests in their order. Assumes nothing.
+use borrow.Author.Tests.{eq-eqb, le-leb, lt-leb, ne_eqb}
+use Rattle.moving.specs.Call.{turn_number}
+use borrow.Author.Rules.{rules}
+use Rattle.mover.proofs.step.turn_number.Goals as goal
+
+pub returns-then-all-s : goal.returns-then-all-s
+returns-then-all-s c = search tests
+
+pub returns-then-s-n : goal.returns-then-s-n
+returns-then-s-n c = search tests
+
+pub returns-then-s-n-2 : goal.returns-then-s-n-2
+returns-then-s-n-2 c = search tests
+
+pub returns : goal.returns
+returns c = search tests

@@ -1,0 +1,65 @@
+-- `reading::number::number_at` meets its contract: each return has passed the tests before it, on the digits read. Assumes nothing.
+use native.Mathlib.Omega.{arith}
+use mathlib.Core.Path.{◌≡◌, sym}
+use Prim.Native.Nat.{◌+◌, ◌*◌, ◌<◌, ◌≤◌}
+use borrow.Author.Tests.{le-leb, lt-leb, eq-eqb}
+use Rattle.reading.specs.Parsing.{number_at}
+use Rattle.reading.specs.declared.number.Parsed.TheVariants.{Value}
+use Rattle.reading.proofs.Numbers.{digit_in, read_one, read_two, read_three}
+use borrow.Author.Rules.{rules}
+use Rattle.reading.proofs.number.number_at.Goals as goal
+
+-- the number, by its third digit
+digits-read : (k : goal.After-digit_at-c) →
+    let a = k.args in
+    let d1 = k.digit_at.result in
+    let d2 = k.digit-at2.result in
+    let d3 = k.digit-at3.result in
+    (10 ≤ d3 → number_at a.text.now a.at ≡ Value (d1 * 10 + d2) (a.at + 2))
+    × (d3 < 10 → number_at a.text.now a.at ≡ Value (d1 * 100 + d2 * 10 + d3) (a.at + 3))
+digits-read k =
+    let a = k.args in
+    let d1 = k.digit_at in
+    let d2 = k.digit-at2 in
+    let e1 = sym d1.ensures in
+    let e2 = sym d2.ensures in
+    let e3 = sym k.digit-at3.ensures in (
+      λ h. read_two a.text.now a.at d1.result d2.result _ (omega arith) (omega arith) (omega arith) h e1 e2 e3,
+      λ h. read_three a.text.now a.at d1.result d2.result _ (omega arith) (omega arith) (omega arith) h e1 e2 e3,
+    )
+
+pub returns-then-a-ge10 : goal.returns-then-a-ge10
+unfolding number_at
+returns-then-a-ge10 c = simp (sym c.digit_at-a.ensures, le-leb _ _ c.if-a-ge10.true)
+
+pub overflow_add-i : goal.overflow_add-i
+overflow_add-i c =
+    let a = c.args in
+    omega (arith, digit_in a.text.now a.at (omega arith))
+
+pub returns-then-a-eq0 : goal.returns-then-a-eq0
+unfolding number_at
+returns-then-a-eq0 c = simp (sym c.digit_at-a.ensures, lt-leb _ _ c.if-a-ge10.false, eq-eqb _ _ c.if-a-eq0.true)
+
+pub returns-then-b-ge10 : goal.returns-then-b-ge10
+returns-then-b-ge10 c =
+    let a = c.args in
+    let d1 = c.digit_at-a in
+    let d2 = c.digit_at-b in
+    sym (read_one a.text.now a.at d1.result d2.result (omega arith) (omega arith) (sym d1.ensures) (sym d2.ensures))
+
+pub overflow_add-j : goal.overflow_add-j
+overflow_add-j c =
+    let a = c.args in
+    omega (arith, digit_in a.text.now (a.at + 1) (omega arith))
+
+pub returns-then-c-ge10 : goal.returns-then-c-ge10
+returns-then-c-ge10 c = sym ((digits-read c).0 c.if-c-ge10.true)
+
+pub overflow_add-result-4 : goal.overflow_add-result-4
+overflow_add-result-4 c =
+    let a = c.args in
+    omega (arith, digit_in a.text.now (a.at + 2) (omega arith))
+
+pub returns : goal.returns
+returns c = sym ((digits-read c).1 c.if-c-ge10.false)

@@ -1,0 +1,71 @@
+-- `reading::rows::row_at` meets its contract: the characters from place i on are the bits read so far; a row has a digit below 2 at each place, and LF after.
+-- Assumes nothing.
+use mathlib.Core.Path.{◌≡◌, ap, ◌∙◌}
+use mathlib.Core.List.{◌++◌}
+use Prim.Native.Nat.{◌+◌, ◌-◌, ◌^◌, ◌<◌, ◌≤◌}
+use native.Mathlib.Omega.{arith}
+use borrow.Author.Rules.{rules}
+use lib.ListN.{drop}
+use Rattle.text.specs.Lines.{bits}
+use Rattle.reading.specs.Parsing.{digit_at}
+use Rattle.reading.proofs.FoundRows.{row_in, row_ends, row_digit, once, row_fits, row_done}
+use Rattle.reading.proofs.rows.row_at.Goals as goal
+
+-- the digit read stands before those read
+read_is : (k : goal.After-digit_at-d) →
+    let a = k.args in
+    k.digit_at.result ≡ digit_at a.text.now (a.at + (k.loop.i - 1))
+read_is k = k.digit_at.ensures ∙ ap (digit_at _) (omega arith)
+
+pub returns-then-len-at : goal.returns-then-len-at
+returns-then-len-at c = λ v rest e. let a = c.args in omega (arith, row_in a.text.now a.at a.n v rest e)
+
+pub returns-then-len-at-2 : goal.returns-then-len-at-2
+returns-then-len-at-2 c = λ v rest e. let a = c.args in omega (arith, row_in a.text.now a.at a.n v rest e)
+
+pub returns-then-text-end-ne10 : goal.returns-then-text-end-ne10
+returns-then-text-end-ne10 c = λ v rest e. let a = c.args in c.if-text-end-ne10.true (row_ends a.text.now a.at a.n v rest e)
+
+pub loop-i-init : goal.loop-i-init
+unfolding bits
+loop-i-init c =
+    let a = c.args in
+    let z : a.n - a.n ≡ 0 = omega arith in
+    (omega arith, rw z (omega arith), rw z)
+
+pub returns-then-d-gt1 : goal.returns-then-d-gt1
+returns-then-d-gt1 c =
+    λ v rest e.
+    let k = c in
+    let a = k.args in
+    omega (arith, read_is k, row_digit a.text.now a.at a.n v rest e (k.loop-i.i - 1) (omega arith))
+
+pub overflow_mul-v : goal.overflow_mul-v
+overflow_mul-v c =
+    let a = c.args in
+    let l = c.loop-i in
+    omega (arith, row_fits a.n l.i l.v (omega arith) (omega arith) (omega arith) l.invariant.1)
+
+pub overflow_add-v : goal.overflow_add-v
+overflow_add-v c =
+    let a = c.args in
+    let l = c.loop-i in
+    omega (arith, row_fits a.n l.i l.v (omega arith) (omega arith) (omega arith) l.invariant.1)
+
+pub loop-i-preserved : goal.loop-i-preserved
+loop-i-preserved c =
+    let a = c.args in
+    let l = c.loop-i in
+    let d = c.digit_at-d in
+    let read = read_is c in
+    let o = once a.text.now a.at a.n l.i l.v d.result (omega arith) l.invariant.0 l.invariant.1 l.invariant.2 read (omega arith) in
+    (omega arith, o.0, o.1)
+
+pub returns : goal.returns
+returns c =
+    let a = c.args in
+    let l = c.loop-i in
+    let z : l.i ≡ 0 = omega arith in
+    let e : a.n - 0 ≡ a.n = omega arith in
+    let f : a.at + 0 ≡ a.at = omega arith in
+    (rw (z, e) at l.invariant.1, row_done a.text.now a.at a.n l.v (omega arith) c.if-text-end-ne10.false (rw (z, e, f) at l.invariant.2))

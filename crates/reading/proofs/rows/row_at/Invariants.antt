@@ -1,0 +1,18 @@
+-- `reading::rows::row_at` meets its contract: the characters from place i on are the bits read so far; a row has a digit below 2 at each place, and LF after.
+-- Assumes nothing.
+use mathlib.Core.Path.{◌≡◌, ap, ◌∙◌}
+use mathlib.Core.List.{◌++◌}
+use Prim.Native.Nat.{◌+◌, ◌-◌, ◌^◌, ◌<◌, ◌≤◌}
+use native.Mathlib.Omega.{arith}
+use borrow.Author.Rules.{rules}
+use lib.ListN.{drop}
+use Rattle.text.specs.Lines.{bits}
+use Rattle.reading.specs.Parsing.{digit_at}
+use Rattle.reading.proofs.FoundRows.{row_in, row_ends, row_digit, once, row_fits, row_done}
+use Rattle.reading.proofs.rows.row_at.Given as goal
+
+abbrev pub invariant-loop-i : goal.invariant-loop-i
+invariant-loop-i l = (l.i ≤ l.n) × (l.v < 2 ^ (l.n - l.i)) × (drop (l.at + l.i) l.text ≡ bits (l.n - l.i) l.v ++ drop (l.at + l.n) l.text)
+
+abbrev pub decreases-loop-i : goal.decreases-loop-i
+decreases-loop-i l = l.i

@@ -1,0 +1,44 @@
+-- `running::singular_passes` meets its contract: a search that passed only regular passes. Assumes nothing.
+use mathlib.Core.Path.{◌≡◌, sym, ap, ◌∙◌}
+use mathlib.Core.Bool.{Bool, false}
+use Prim.Native.Nat.{ℕ, ◌≤◌, ◌<◌, ◌-◌, ◌*◌}
+use native.Mathlib.Omega.{arith}
+use borrow.Author.Count.{below_more}
+use borrow.Author.Rules.{rules}
+use lib.ListN.{take, drop}
+use Rattle.algebra.specs.Matrix.{singular}
+use Rattle.running.proofs.Judging.{part_matrix}
+use Rattle.bank.specs.Limits.{ROWS}
+use Rattle.algebra.proofs.Search.{any_intro, none_intro}
+use mathlib.Core.List.{List}
+use Rattle.running.proofs.singular_passes.Goals as goal
+
+-- what is asked of pass p
+abbrev test : List ℕ → ℕ → ℕ → Bool
+test rows n p = singular n (take n (drop (p * ROWS) rows))
+
+pub loop-p-init : goal.loop-p-init
+loop-p-init c = (omega arith, λ k h. absurd (omega arith))
+
+pub returns-then-is_singular : goal.returns-then-is_singular
+returns-then-is_singular c =
+    let t = c in
+    let a = t.args in
+    let p = t.loop-p.p in
+    let part = part_matrix a.rows.now t.pass_rows-part.result p a.n (omega arith) t.pass_rows-part.ensures in
+    let asked = ap (singular a.n) part ∙ sym c.is_singular.ensures in
+    sym (any_intro (test a.rows.now a.n) a.count p (omega arith) (asked ∙ c.if-is_singular.true))
+
+pub loop-p-preserved : goal.loop-p-preserved
+loop-p-preserved c =
+    let t = c in
+    let a = t.args in
+    let l = t.loop-p in
+    let part = part_matrix a.rows.now t.pass_rows-part.result l.p a.n (omega arith) t.pass_rows-part.ensures in
+    let asked = ap (singular a.n) part ∙ sym c.is_singular.ensures in
+    (omega arith, below_more (λ k. test a.rows.now a.n k ≡ false) l.p l.invariant.1 (asked ∙ c.if-is_singular.false))
+
+pub returns : goal.returns
+returns c =
+    let a = c.args in
+    sym (none_intro (test a.rows.now a.n) a.count (λ k h. c.loop-p.invariant.1 k (omega arith)))

@@ -1,0 +1,21 @@
+-- `store::with_pass` meets its contract: the rows are pasted place by place. Assumes nothing.
+use mathlib.Core.Path.{◌≡◌, refl, ap, ◌∙◌}
+use mathlib.Core.List.{List}
+use Prim.Native.Nat.{ℕ, ◌+◌, ◌*◌, ◌-◌, ◌≤◌, ◌<◌}
+use native.Mathlib.Omega.{arith}
+use native.Mathlib.Numerals.{add-one}
+use borrow.Author.Rules.{rules}
+use lib.ListN.{length, get_or, set}
+use lib.Seq.{paste, paste-zero, paste-suc}
+use Rattle.bank.specs.Limits.{ROWS, PASSES}
+use Rattle.planning.specs.declared.Plan.{Plan}
+use Rattle.store.specs.Store.{with_pass}
+use Rattle.store.proofs.with_pass.Given as goal
+
+abbrev pub invariant-loop-i : goal.invariant-loop-i
+invariant-loop-i l =
+    (l.i ≤ ROWS) × (l.base ≡ l.p * ROWS) × (l.p < PASSES) × (length l.initial.out.rows ≡ PASSES * ROWS) × (length l.initial.out.complements ≡ PASSES) × (length l.rows ≡ ROWS)
+    × (l.out ≡ with_rows l.initial.out (paste l.initial.out.rows l.base l.rows l.i))
+
+abbrev pub decreases-loop-i : goal.decreases-loop-i
+decreases-loop-i l = ROWS - l.i

@@ -1,0 +1,22 @@
+-- `stripes::stripe::read_step` meets its contract: a stripe lies side by side in the area and in memory. Assumes nothing.
+use mathlib.Core.Path.{◌∙◌}
+use native.Mathlib.Omega.{arith}
+use Rattle.stripes.proofs.Stripes.{read_area, read_is, read_memory, size_pos}
+use borrow.Author.Rules.{rules}
+use Rattle.stripes.proofs.stripe.read_step.Goals as goal
+
+pub overflow_mul-at : goal.overflow_mul-at
+overflow_mul-at c =
+    let s = c in
+    record { fits = rw c.stripe_of-s.ensures (omega (arith, read_memory s.pre, s.good)) }
+
+pub lay_drives-requires : goal.lay_drives-requires
+lay_drives-requires c =
+    let s = c in
+    let k = s.requires in
+    rw s.stripe_of-s.ensures (read_memory k, read_area k, size_pos k)
+
+pub returns : goal.returns
+returns c =
+    let s = c in
+    c.lay_drives.ensures ∙ rw s.stripe_of-s.ensures (read_is s.requires)

@@ -1,0 +1,49 @@
+-- `stripes::stripe::stripe_of` meets its contract: no number that it works out is too large for its word. Assumes nothing.
+use Prim.Native.Nat.{◌+◌, ◌*◌, ◌-◌, ◌^◌, ◌<◌}
+use native.Mathlib.Omega.{arith}
+use Rattle.bank.specs.Geometry.{drives}
+use Rattle.tables.proofs.Sizes.{stripe_fits}
+use Rattle.stripes.proofs.Stripes.{first_fits, size_fits}
+use borrow.Author.Rules.{rules}
+use Rattle.bank.proofs.Limits.{Allowed, limits, limits→allowed}
+use Rattle.stripes.proofs.stripe.stripe_of.Goals as goal
+
+abbrev ok : (s : goal.Start) → Allowed s.args.g
+ok s = limits→allowed s.args.g s.requires.0
+
+-- the first block
+first : (s : goal.Start) → let x = s.args in x.load * 2 ^ (x.g.m - x.g.b) + x.tier * drives x.g < 2 ^ 64
+first s = first_fits (ok s) s.args.load s.args.tier s.requires.1 s.requires.2
+
+pub overflow_mul-size : goal.overflow_mul-size
+overflow_mul-size c = record { fits = rw c.power.ensures (size_fits (ok c)) }
+
+pub overflow_mul-place : goal.overflow_mul-place
+overflow_mul-place c =
+    let s = c in
+    record { fits = rw c.power-drives.ensures (stripe_fits (ok s) s.args.tier s.requires.2) }
+
+pub overflow_mul-result : goal.overflow_mul-result
+overflow_mul-result c = record { fits = rw c.power-blocks.ensures (omega (arith, first c)) }
+
+pub overflow_add-result : goal.overflow_add-result
+overflow_add-result c =
+    let one = c in
+    record { fits = rw (c.power-blocks.ensures, one.power-drives.ensures) (first one) }
+
+pub returns : goal.returns
+returns c =
+    let two = c in
+    rw (two.power-drives.ensures, two.power.ensures, c.power-blocks.ensures)
+
+pub power-drives-requires : goal.power-drives-requires
+power-drives-requires c = search (rules, limits)
+
+pub power-requires : goal.power-requires
+power-requires c = search (rules, limits)
+
+pub overflow_sub-g : goal.overflow_sub-g
+overflow_sub-g c = search (rules, limits)
+
+pub power-blocks-requires : goal.power-blocks-requires
+power-blocks-requires c = search (rules, limits)

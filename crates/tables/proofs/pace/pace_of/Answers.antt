@@ -1,0 +1,80 @@
+-- `tables::pace::pace_of` meets its contract: M/(BD) and N/(BD), in powers of two, for each phase. Assumes nothing.
+use Prim.Native.Nat.{◌^◌, ◌≤◌}
+use native.Mathlib.Omega.{arith}
+use lib.ListN.{length}
+use Rattle.bank.specs.Geometry.{records, tiers}
+use Rattle.bank.specs.Limits.{ROWS}
+use Rattle.moving.proofs.Numbers.{stripe_pos}
+use Rattle.totals.proofs.Total.{few_phases, phases_small, records_small, stripe_small}
+use Rattle.planning.specs.Pass.{load_steps, pass_steps, phases}
+use Rattle.planning.specs.Stored.{route_of}
+use Rattle.tables.proofs.Sizes.{tiers_small}
+use borrow.Author.Rules.{rules}
+use Rattle.bank.proofs.Limits.{Allowed, limits, limits→allowed}
+use Rattle.tables.proofs.pace.pace_of.Goals as goal
+
+abbrev ok : (s : goal.Start) → Allowed s.args.plan.geometry
+ok s = limits→allowed s.args.plan.geometry s.requires
+
+pub overflow_mul-stripe : goal.overflow_mul-stripe
+overflow_mul-stripe c =
+    let s = c in
+    record { fits = rw (c.power.ensures, c.power-2.ensures) (omega (arith, stripe_small s.args.plan.geometry (ok s))) }
+
+pub nonzero_div-each : goal.nonzero_div-each
+nonzero_div-each c =
+    let s = c in
+    rw (c.power.ensures, c.power-2.ensures) (stripe_pos s.args.plan.geometry (ok s))
+
+pub overflow_mul-result : goal.overflow_mul-result
+unfolding tiers
+overflow_mul-result c =
+    let s = c in
+    let g = s.args.plan.geometry in
+    let route = route_of s.args.plan in
+    let few : tiers g ≤ 2 ^ ROWS = omega (arith, tiers_small (ok s), records_small g (ok s)) in
+    record {
+      fits = rw (c.power.ensures, c.power-2.ensures, c.power-3.ensures, c.phases-kinds.ensures)
+          (omega (arith, phases_small (length (phases route)) (tiers g) (few_phases route) few));
+    }
+
+pub overflow_mul-result-2 : goal.overflow_mul-result-2
+overflow_mul-result-2 c =
+    let s = c in
+    let g = s.args.plan.geometry in
+    let route = route_of s.args.plan in
+    record {
+      fits = rw (c.power-4.ensures, c.phases-kinds.ensures)
+          (omega (arith, phases_small (length (phases route)) (records g) (few_phases route) (records_small g (ok s))));
+    }
+
+pub nonzero_div-result : goal.nonzero_div-result
+nonzero_div-result c =
+    let s = c in
+    rw (c.power.ensures, c.power-2.ensures) (stripe_pos s.args.plan.geometry (ok s))
+
+pub returns : goal.returns
+unfolding tiers load_steps pass_steps route_of
+returns c =
+    rw (
+      c.power.ensures,
+      c.power-2.ensures,
+      c.power-3.ensures,
+      c.power-4.ensures,
+      c.phases-kinds.ensures,
+    )
+
+pub phases-kinds-requires : goal.phases-kinds-requires
+phases-kinds-requires c = search (rules, limits)
+
+pub power-requires : goal.power-requires
+power-requires c = search (rules, limits)
+
+pub power-requires-2 : goal.power-requires-2
+power-requires-2 c = search (rules, limits)
+
+pub power-requires-3 : goal.power-requires-3
+power-requires-3 c = search (rules, limits)
+
+pub power-requires-4 : goal.power-requires-4
+power-requires-4 c = search (rules, limits)

@@ -1,0 +1,19 @@
+-- `tables::tables::block_columns` meets its contract: the first j places are filled. Assumes nothing.
+use mathlib.Core.Path.{◌≡◌, refl, sym, ap, ◌∙◌}
+use mathlib.Core.List.{map}
+use Prim.Native.Nat.{ℕ, ◌-◌, ◌/◌, ◌^◌, ◌≤◌}
+use native.Mathlib.Omega.{arith}
+use borrow.Author.Rules.{rules}
+use lib.ListN.{length, length-map, take}
+use lib.Seq.{get_or-take, length-take-le}
+use Rattle.algebra.proofs.Columns.{map_at}
+use Rattle.algebra.specs.Matrix.{applied}
+use Rattle.bank.specs.Limits.{ROWS}
+use Rattle.matrix.proofs.Filled.{filled, filled_all, filled_next}
+use Rattle.tables.proofs.tables.block_columns.Given as goal
+
+abbrev pub invariant-loop-j : goal.invariant-loop-j
+invariant-loop-j l = (l.j ≤ l.m) × (l.blocks ≡ filled ROWS (map (λ v. applied (take l.n l.rows) v / 2 ^ l.b) (take l.m l.columns)) l.j)
+
+abbrev pub decreases-loop-j : goal.decreases-loop-j
+decreases-loop-j l = l.m - l.j

@@ -1,0 +1,55 @@
+-- `tables::tables::first_place` meets its contract: the sum of the columns that are picked. Assumes nothing.
+use mathlib.Core.Path.{◌∙◌}
+use Prim.Native.Nat.{◌%◌, ◌^◌}
+use native.Mathlib.Nat.{mod-lt}
+use native.Mathlib.Omega.{arith}
+use lib.Bits.{xor_lt}
+use lib.Pow.{pow_pos}
+use Rattle.tables.proofs.Sizes.{memory_fit, records_fit, start_fits, start_is, start_lt, stripe_fits}
+use borrow.Author.Rules.{rules}
+use Rattle.bank.proofs.Limits.{Allowed, limits, limits→allowed}
+use Rattle.tables.proofs.tables.first_place.Goals as goal
+
+abbrev ok : (s : goal.Start) → Allowed s.args.t.geometry
+ok s = limits→allowed s.args.t.geometry s.requires.0
+
+pub overflow_mul-start : goal.overflow_mul-start
+overflow_mul-start c = let s = c in record { fits = rw c.power.ensures (stripe_fits (ok s) s.args.tier s.requires.1) }
+
+pub overflow_mul-start-2 : goal.overflow_mul-start-2
+overflow_mul-start-2 c =
+    let s = c in
+    record { fits = rw (c.power.ensures, c.power-2.ensures) (start_fits (ok s) s.args.tier s.requires.1) }
+
+pub nonzero_rem-picks : goal.nonzero_rem-picks
+nonzero_rem-picks c = rw c.power-3.ensures (pow_pos c.args.t.geometry.m)
+
+pub overflow_cast-picks : goal.overflow_cast-picks
+overflow_cast-picks c =
+    let three = c in
+    let s = three in
+    let m = s.args.t.geometry.m in
+    let w = xor_lt m _ (s.args.goes.0 % 2 ^ m) (start_lt (ok s) s.args.tier s.requires.1) (mod-lt s.args.goes.0 (pow_pos m)) in
+    record {
+      fits = rw (three.power.ensures, three.power-2.ensures, three.power-3.ensures)
+          (omega (arith, w, memory_fit (ok s), records_fit (ok s)));
+    }
+
+pub returns : goal.returns
+returns c =
+    let three = c in
+    let x = three.args in
+    c.sum.ensures
+    ∙ rw (three.power.ensures, three.power-2.ensures, three.power-3.ensures, start_is x.t.geometry x.tier)
+
+pub power-requires : goal.power-requires
+power-requires c = search (rules, limits)
+
+pub power-requires-2 : goal.power-requires-2
+power-requires-2 c = search (rules, limits)
+
+pub power-requires-3 : goal.power-requires-3
+power-requires-3 c = search (rules, limits)
+
+pub sum-requires : goal.sum-requires
+sum-requires c = search (rules, limits)

@@ -1,0 +1,52 @@
+-- `words::read_number` meets its contract: the bytes read so far are the decimal of the value. Assumes nothing.
+use mathlib.Core.Logic.{⊎_elim}
+use Prim.Native.Nat.{◌^◌, ◌<◌, ◌-◌}
+use native.Mathlib.Omega.{arith}
+use borrow.Author.Rules.{rules}
+use lib.ListN.{length}
+use Rattle.words.specs.Says.{DIGITS}
+use Rattle.words.proofs.Numbers.{ReadTo, none_byte, none_empty, none_long, none_zero, read_all, read_more, read_none, read_small}
+use Rattle.words.proofs.read_number.Goals as goal
+
+-- the bytes read so far are too few for a value that wraps
+value-small : (c : goal.Else-d-gt9) → c.loop-i.value < 10 ^ DIGITS
+value-small c =
+    let l = c.loop-i in
+    read_small c.args.word.now l.i l.value l.invariant (omega arith)
+
+pub returns-then-size-eq0 : goal.returns-then-size-eq0
+returns-then-size-eq0 c = none_empty c.args.word.now (omega arith)
+
+pub returns-then-size-gt-DIGITS : goal.returns-then-size-gt-DIGITS
+returns-then-size-gt-DIGITS c = none_long c.args.word.now (omega arith)
+
+pub returns-then-word-eq48 : goal.returns-then-word-eq48
+returns-then-word-eq48 c = none_zero c.args.word.now (omega arith) (search rules)
+
+pub loop-i-init : goal.loop-i-init
+loop-i-init c =
+    read_none c.args.word.now
+    (λ h z. ⊎_elim (λ w. w.2.left z) (λ w. omega arith) c.if-size-gt1.branch)
+
+pub returns-then-d-gt9 : goal.returns-then-d-gt9
+returns-then-d-gt9 c =
+    let l = c.loop-i in
+    none_byte c.args.word.now l.i (omega arith)
+    (λ d. c.digit-d.ensures.none (omega arith) d.0 d.1)
+
+pub overflow_mul-value : goal.overflow_mul-value
+overflow_mul-value c = omega (arith, value-small c)
+
+pub overflow_add-value : goal.overflow_add-value
+overflow_add-value c = omega (arith, value-small c)
+
+pub loop-i-preserved : goal.loop-i-preserved
+loop-i-preserved c =
+    let l = c.loop-i in
+    read_more c.args.word.now l.i l.value l.invariant (omega arith)
+    c.digit-d.result (omega arith) (omega arith) (c.digit-d.ensures.digit (omega arith))
+
+pub returns : goal.returns
+returns c =
+    let l = c.loop-i in
+    read_all c.args.word.now l.i l.value l.invariant (omega arith) (omega arith) (omega arith)
