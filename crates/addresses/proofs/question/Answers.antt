@@ -12,20 +12,21 @@ use Rattle.order.proofs.Accepted.{judgement→accepted}
 use Rattle.addresses.proofs.Asked.{question_judged, question_taken}
 use Rattle.addresses.proofs.question.Goals as goal
 
--- the order is taken
-taken : (c : goal.Else-judged-ne0) → judgement c.args.order ≡ 0
-taken c = sym (ap (λ (v : Verdict). v.number) c.judge-judged.ensures) ∙ c.if-judged-ne0.false
-
 pub returns-then-judged-ne0 : goal.returns-then-judged-ne0
 returns-then-judged-ne0 c =
     let e = c.judge-judged.ensures in
     e ∙ question_judged _ _ (λ z. c.if-judged-ne0.true (ap (λ (v : Verdict). v.number) e ∙ z))
 
 pub power-requires : goal.power-requires
-power-requires c = let ok = limits→allowed _ (judgement→accepted _ (taken c)).inside in omega (arith, ok.n_high)
+power-requires c =
+    let taken : judgement c.args.order ≡ 0 =
+        sym (ap (λ (v : Verdict). v.number) c.judge-judged.ensures) ∙ c.if-judged-ne0.false in
+    let ok = limits→allowed _ (judgement→accepted _ taken).inside in omega (arith, ok.n_high)
 
 pub returns : goal.returns
 returns c =
+    let taken : judgement c.args.order ≡ 0 =
+        sym (ap (λ (v : Verdict). v.number) c.judge-judged.ensures) ∙ c.if-judged-ne0.false in
     let i = c in
-    question_taken _ _ _ (taken i)
+    question_taken _ _ _ taken
     (c.refuse.ensures ∙ ap (λ (k : ℕ). refuse (leb k i.args.x.0) 10 0) c.power.ensures)

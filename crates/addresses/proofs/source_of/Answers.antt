@@ -14,18 +14,6 @@ use Rattle.addresses.proofs.Asked.{in_word, number_form, number_solved, solvable
 use Rattle.order.proofs.Judged.{form_none, form_z}
 use Rattle.addresses.proofs.source_of.Goals as goal
 
--- the form refuses nothing
-formed : (c : goal.Else-form-ne0) → form_number c.args.order ≡ 0
-formed c = sym c.form_number-form.ensures ∙ c.if-form-ne0.false
-
-number_is : (c : goal.After-refuse-number) → let a = c.args in c.refuse-number.result ≡ question_number a.order a.y.0
-number_is c =
-    let solve = c.solve-solved in
-    let power = c.power-size in
-    c.refuse-number.ensures
-    ∙ ap (refuse (not (eqb solve.result.kernel 0)) 3) c.refuse.ensures
-    ∙ number_solved _ _ _ power.ensures (formed c) _ solve.ensures
-
 pub returns-then-form-ne0 : goal.returns-then-form-ne0
 returns-then-form-ne0 c =
     let order = c.args.order in
@@ -34,31 +22,53 @@ returns-then-form-ne0 c =
     source-refused _ _ _ _ (e ∙ sym number) (sym (ap (λ (k : ℕ). z_with k order) number ∙ form_z order)) c.if-form-ne0.true
 
 pub power-size-requires : goal.power-size-requires
-power-size-requires c = let ok = limits→allowed _ (form_none _ (formed c)).0 in omega (arith, ok.n_high)
+power-size-requires c =
+    let formed : form_number c.args.order ≡ 0 =
+        sym c.form_number-form.ensures ∙ c.if-form-ne0.false in
+    let ok = limits→allowed _ (form_none _ formed).0 in omega (arith, ok.n_high)
 
 pub nonzero_rem-low : goal.nonzero_rem-low
 nonzero_rem-low c = rw c.power-size.ensures (pow_pos c.args.order.geometry.n)
 
 pub overflow_cast-low : goal.overflow_cast-low
 overflow_cast-low c =
+    let formed : form_number c.args.order ≡ 0 =
+        sym c.form_number-form.ensures ∙ c.if-form-ne0.false in
     let i = c in
-    let ok = solvable _ i.args.y.0 _ c.power-size.ensures (formed i) in
+    let ok = solvable _ i.args.y.0 _ c.power-size.ensures formed in
     record { fits = in_word _ _ ok.0 ok.2 }
 
 pub solve-solved-requires : goal.solve-solved-requires
-solve-solved-requires c = solvable _ _ _ c.power-size.ensures (formed c)
+solve-solved-requires c =
+    let formed : form_number c.args.order ≡ 0 =
+        sym c.form_number-form.ensures ∙ c.if-form-ne0.false in
+    solvable _ _ _ c.power-size.ensures formed
 
 pub returns-then-number-ne0 : goal.returns-then-number-ne0
 returns-then-number-ne0 c =
+    let formed : form_number c.args.order ≡ 0 =
+        sym c.form_number-form.ensures ∙ c.if-form-ne0.false in
+    let number_is : let a = c.args in c.refuse-number.result ≡ question_number a.order a.y.0 =
+        λ = let solve = c.solve-solved in let power. c.power-size in
+    c.refuse-number.ensures
+    ∙ ap (refuse (not (eqb solve.result.kernel 0)) 3) c.refuse.ensures
+    ∙ number_solved _ _ _ power.ensures formed _ solve.ensures in
     let r = c in
     let solve = r.solve-solved in
     let power = r.power-size in
-    source-refused _ _ _ _ (number_is r) (c.wide.ensures ∙ z_solved _ _ _ power.ensures (formed r) _ solve.ensures) c.if-number-ne0.true
+    source-refused _ _ _ _ number_is (c.wide.ensures ∙ z_solved _ _ _ power.ensures formed _ solve.ensures) c.if-number-ne0.true
 
 pub returns : goal.returns
 returns c =
+    let formed : form_number c.args.order ≡ 0 =
+        sym c.form_number-form.ensures ∙ c.if-form-ne0.false in
+    let number_is : let a = c.args in c.refuse-number.result ≡ question_number a.order a.y.0 =
+        λ = let solve = c.solve-solved in let power. c.power-size in
+    c.refuse-number.ensures
+    ∙ ap (refuse (not (eqb solve.result.kernel 0)) 3) c.refuse.ensures
+    ∙ number_solved _ _ _ power.ensures formed _ solve.ensures in
     let r = c in
     let solve = r.solve-solved in
     let power = r.power-size in
-    let none = sym (number_is r) ∙ c.if-number-ne0.false in
-    source_given _ _ _ none (c.wide-2.ensures ∙ source_solved _ _ _ power.ensures (formed r) _ solve.ensures none)
+    let none = sym number_is ∙ c.if-number-ne0.false in
+    source_given _ _ _ none (c.wide-2.ensures ∙ source_solved _ _ _ power.ensures formed _ solve.ensures none)

@@ -9,22 +9,26 @@ use Rattle.order.specs.declared.Verdict.{Verdict}
 use Rattle.addresses.proofs.Asked.{settled, in_word, target-refused, target_given}
 use Rattle.addresses.proofs.target_of.Goals as goal
 
--- nothing is refused
-none : (c : goal.Else-asked-ne0) → let a = c.args in question_number a.order a.x.0 ≡ 0
-none c = sym (ap (λ (v : Verdict). v.number) c.question-asked.ensures) ∙ c.if-asked-ne0.false
-
 pub returns-then-asked-ne0 : goal.returns-then-asked-ne0
 returns-then-asked-ne0 c = target-refused _ _ _ c.question-asked.ensures c.if-asked-ne0.true
 
 pub overflow_cast-from : goal.overflow_cast-from
-overflow_cast-from c = let ok = settled _ _ (none c) in record { fits = in_word _ _ ok.0 ok.1 }
+overflow_cast-from c =
+    let none : let a = c.args in question_number a.order a.x.0 ≡ 0 =
+        sym (ap (λ (v : Verdict). v.number) c.question-asked.ensures) ∙ c.if-asked-ne0.false in
+    let ok = settled _ _ none in record { fits = in_word _ _ ok.0 ok.1 }
 
 pub apply-requires : goal.apply-requires
-apply-requires c = (settled _ _ (none c)).0
+apply-requires c =
+    let none : let a = c.args in question_number a.order a.x.0 ≡ 0 =
+        sym (ap (λ (v : Verdict). v.number) c.question-asked.ensures) ∙ c.if-asked-ne0.false in
+    (settled _ _ none).0
 
 pub returns : goal.returns
 unfolding target
 returns c =
+    let none : let a = c.args in question_number a.order a.x.0 ≡ 0 =
+        sym (ap (λ (v : Verdict). v.number) c.question-asked.ensures) ∙ c.if-asked-ne0.false in
     let i = c in
-    target_given _ _ _ (none i)
+    target_given _ _ _ none
     (c.wide.ensures ∙ ap (λ (y : ℕ). bit_xor y i.args.order.complement) c.apply.ensures)

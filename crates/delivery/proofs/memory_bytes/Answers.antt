@@ -6,12 +6,11 @@ use borrow.Author.Rules.{rules}
 use Rattle.bank.proofs.Limits.{limits, limits→allowed}
 use Rattle.delivery.proofs.memory_bytes.Goals as goal
 
--- the bytes, as code works them out
-product : (c : goal.After-wide) → c.power.result * c.wide.result ≡ 2 ^ c.args.g.m * c.args.g.r
-product c = rw (c.power.ensures, c.wide.ensures)
-
 pub overflow_mul-result : goal.overflow_mul-result
-overflow_mul-result c = record { fits = rw (product c) (memory_fits (limits→allowed c.args.g c.requires)) }
+overflow_mul-result c =
+    let product : c.power.result * c.wide.result ≡ 2 ^ c.args.g.m * c.args.g.r =
+        rw (c.power.ensures, c.wide.ensures) in
+    record { fits = rw product (memory_fits (limits→allowed c.args.g c.requires)) }
 
 pub power-requires : goal.power-requires
 power-requires c = search (rules, limits)

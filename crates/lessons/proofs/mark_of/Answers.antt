@@ -18,12 +18,12 @@ pub returns-then-said-target : goal.returns-then-said-target
 returns-then-said-target c =
     let s = c in
     let r = s in
-    mark_right _ _ _ _ r.target-of.ensures r.if1.false _
+    mark_right _ _ _ _ r.target_of-target.ensures r.if-target-ne0.false _
     (subst (Says _) s.said-1.given.1 r.read_number.ensures) c.if-said-target.true
 
 pub returns : goal.returns
 returns c =
     let s = c in
     let r = s in
-    mark_wrong _ _ _ _ r.target-of.ensures r.if1.false _
+    mark_wrong _ _ _ _ r.target_of-target.ensures r.if-target-ne0.false _
     (subst (Says _) s.said-1.given.1 r.read_number.ensures) c.if-said-target.false

@@ -9,12 +9,11 @@ use Rattle.planning.specs.Running.{sound}
 use Rattle.listing.proofs.Passes.{listing_none, listing_long, listing_fits}
 use Rattle.listing.proofs.listing_size.Goals as goal
 
-runnable : (k : goal.Else-not-is_sound) → sound k.args.plan ≡ true
-runnable k = sym k.is-sound.ensures ∙ not-false k.is-sound.result k.if1.false
-
 pub returns : goal.returns
 returns c =
-    let long = listing_long c.args.plan (runnable c) in
+    let runnable : sound c.args.plan ≡ true =
+        sym c.is_sound.ensures ∙ not-false c.is_sound.result c.if-not-is_sound.false in
+    let long = listing_long c.args.plan runnable in
     omega (arith, c.head_size.ensures, c.tail_size.ensures)
 
 pub returns-then-not-is_sound : goal.returns-then-not-is_sound
@@ -23,10 +22,16 @@ returns-then-not-is_sound c =
     sym (ap length (listing_none c.args.plan none))
 
 pub head_size-requires : goal.head_size-requires
-head_size-requires c = runnable c
+head_size-requires c =
+    let runnable : sound c.args.plan ≡ true =
+        sym c.is_sound.ensures ∙ not-false c.is_sound.result c.if-not-is_sound.false in
+    runnable
 
 pub tail_size-requires : goal.tail_size-requires
-tail_size-requires c = runnable c
+tail_size-requires c =
+    let runnable : sound c.args.plan ≡ true =
+        sym c.is_sound.ensures ∙ not-false c.is_sound.result c.if-not-is_sound.false in
+    runnable
 
 pub overflow_add-result : goal.overflow_add-result
 overflow_add-result c = omega (arith, sized c, listing_fits c.args.plan (search rules))

@@ -10,36 +10,45 @@ use Rattle.writing.proofs.Put.{wrote_three, wrote_fits}
 use Rattle.listing.proofs.Passes.{pass_parts, pass_parts_long}
 use Rattle.listing.proofs.put_pass.Goals as goal
 
-roomy : (k : goal.After-pass_rows-rows) →
-    let a = k.args in
-    a.at + (length (line (pass_word ++ decimal k.args.p)) + (length (let n = k.args.plan.geometry.n in row_lines n (take n k.pass-rows.result)) + (a.plan.geometry.n + 1))) ≤ length a.room.now
-roomy k =
-    let start = k in
-    let a = start.args in
-    omega (arith, start.requires.2, pass_parts_long a.plan a.p k.pass-rows.result start.requires.0 k.pass-rows.ensures)
-
 pub put_line-i-requires : goal.put_line-i-requires
-put_line-i-requires c = omega (arith, roomy c)
+put_line-i-requires c =
+    let roomy : let a = c.args in
+    a.at + (length (line (pass_word ++ decimal c.args.p)) + (length (let n = c.args.plan.geometry.n in row_lines n (take n c.pass_rows-rows.result)) + (a.plan.geometry.n + 1))) ≤ length a.room.now =
+        λ = let start = k in let a. start.args in
+    omega (arith, start.requires.2, pass_parts_long a.plan a.p c.pass_rows-rows.result start.requires.0 c.pass_rows-rows.ensures) in
+    omega (arith, roomy)
 
 pub put_rows-j-requires : goal.put_rows-j-requires
 put_rows-j-requires c =
+    let roomy : let a = c.args in
+    a.at + (length (line (pass_word ++ decimal c.args.p)) + (length (let n = c.args.plan.geometry.n in row_lines n (take n c.pass_rows-rows.result)) + (a.plan.geometry.n + 1))) ≤ length a.room.now =
+        λ = let start = k in let a. start.args in
+    omega (arith, start.requires.2, pass_parts_long a.plan a.p c.pass_rows-rows.result start.requires.0 c.pass_rows-rows.ensures) in
     let k = c in
     let one = c.put_line-i.ensures in
-    (k.requires.0, wrote_fits one (length (let n = k.args.plan.geometry.n in row_lines n (take n k.pass_rows-rows.result))) (omega (arith, roomy k)))
+    (k.requires.0, wrote_fits one (length (let n = k.args.plan.geometry.n in row_lines n (take n k.pass_rows-rows.result))) (omega (arith, roomy)))
 
 pub put_row-requires : goal.put_row-requires
 put_row-requires c =
+    let roomy : let a = c.args in
+    a.at + (length (line (pass_word ++ decimal c.args.p)) + (length (let n = c.args.plan.geometry.n in row_lines n (take n c.pass_rows-rows.result)) + (a.plan.geometry.n + 1))) ≤ length a.room.now =
+        λ = let start = k in let a. start.args in
+    omega (arith, start.requires.2, pass_parts_long a.plan a.p c.pass_rows-rows.result start.requires.0 c.pass_rows-rows.ensures) in
     let k = c in
     let one = c.put_line-i.ensures in
     let last = k.args.plan.geometry.n + 1 in
-    wrote_fits c.put_rows-j.ensures last (wrote_fits one (length (let n = k.args.plan.geometry.n in row_lines n (take n k.pass_rows-rows.result)) + last) (roomy k))
+    wrote_fits c.put_rows-j.ensures last (wrote_fits one (length (let n = k.args.plan.geometry.n in row_lines n (take n k.pass_rows-rows.result)) + last) roomy)
 
 pub returns : goal.returns
 unfolding pass_lines
 returns c =
+    let roomy : let a = c.args in
+    a.at + (length (line (pass_word ++ decimal c.args.p)) + (length (let n = c.args.plan.geometry.n in row_lines n (take n c.pass_rows-rows.result)) + (a.plan.geometry.n + 1))) ≤ length a.room.now =
+        λ = let start = k in let a. start.args in
+    omega (arith, start.requires.2, pass_parts_long a.plan a.p c.pass_rows-rows.result start.requires.0 c.pass_rows-rows.ensures) in
     let k = c in
     let start = k in
     let one = c.put_line-i.ensures in
     let two = c.put_rows-j.ensures in
     rw (pass_parts start.args.plan start.args.p k.pass_rows-rows.result start.requires.0 k.pass_rows-rows.ensures)
-    (wrote_three one two c.put_row.ensures (omega (arith, roomy k)))
+    (wrote_three one two c.put_row.ensures (omega (arith, roomy)))

@@ -13,10 +13,6 @@ use Rattle.order.specs.declared.Verdict.{Verdict}
 use Rattle.order.proofs.Judged.{form_none, form_z, formed_z, judgement_form, judgement_formed}
 use Rattle.order.proofs.judge.Goals as goal
 
--- the form refuses nothing
-formed : (c : goal.Else-number-ne0) → form_number c.args.order ≡ 0
-formed c = sym c.form_number-number.ensures ∙ c.if-number-ne0.false
-
 pub returns-then-number-ne0 : goal.returns-then-number-ne0
 returns-then-number-ne0 c =
     let order = c.args.order in
@@ -26,14 +22,19 @@ returns-then-number-ne0 c =
     ap₂ {C = Verdict} (λ (k z : ℕ). record { number = k; z = record { 0 = z } }) number (sym none)
 
 pub kernel-z-requires : goal.kernel-z-requires
-kernel-z-requires c = (limits→allowed _ (form_none _ (formed c)).0).n_high
+kernel-z-requires c =
+    let formed : form_number c.args.order ≡ 0 =
+        sym c.form_number-number.ensures ∙ c.if-number-ne0.false in
+    (limits→allowed _ (form_none _ formed).0).n_high
 
 pub returns : goal.returns
 returns c =
+    let formed : form_number c.args.order ≡ 0 =
+        sym c.form_number-number.ensures ∙ c.if-number-ne0.false in
     let i = c in
     let order = i.args.order in
     let k = c.kernel-z.ensures in
-    let formed = judgement_formed order (formed i) in
+    let formed = judgement_formed order formed in
     let three = c.refuse.ensures ∙ ap (λ (z : ℕ). refuse (not (eqb z 0)) 3 0) k
     ∙ ap (λ (t : Bool). refuse t 3 0) (kernel_tells order.geometry.n (matrix_of order)) in
     let z = ap (λ (k : ℕ). z_with k order) formed ∙ formed_z order 0 (λ e. omega (arith, e)) in

@@ -35,10 +35,10 @@ pub returns-then-spare_rows : goal.returns-then-spare_rows
 returns-then-spare_rows c =
     let u = c in
     let t = u in
-    let size = t.power in
+    let size = t.power-size in
     let plan = t.args.plan in
     sym (rw (
-      stray_rows_asked plan size.result size.ensures ∙ sym t.stray-rows.ensures ∙ t.if1.false,
+      stray_rows_asked plan size.result size.ensures ∙ sym t.stray_rows.ensures ∙ t.if-stray_rows.false,
       stray_complements_asked plan size.result size.ensures ∙ sym u.stray_complements.ensures ∙ u.if-stray_complements.false,
       spare_rows_asked plan ∙ sym c.spare_rows.ensures ∙ c.if-spare_rows.true,
     ))
@@ -52,10 +52,10 @@ pub returns : goal.returns
 returns c =
     let u = c in
     let t = u in
-    let size = t.power in
+    let size = t.power-size in
     let plan = t.args.plan in
     sym (rw (
-      stray_rows_asked plan size.result size.ensures ∙ sym t.stray-rows.ensures ∙ t.if1.false,
+      stray_rows_asked plan size.result size.ensures ∙ sym t.stray_rows.ensures ∙ t.if-stray_rows.false,
       stray_complements_asked plan size.result size.ensures ∙ sym u.stray_complements.ensures ∙ u.if-stray_complements.false,
       spare_rows_asked plan ∙ sym c.spare_rows.ensures ∙ c.if-spare_rows.false,
     ) (spare_complements_asked plan ∙ sym c.spare_complements.ensures))

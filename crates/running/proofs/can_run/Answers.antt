@@ -8,11 +8,11 @@ use Rattle.running.proofs.can_run.Goals as goal
 
 pub returns-then-not-is_sound : goal.returns-then-not-is_sound
 unfolding can_run
-returns-then-not-is_sound c = sym (rw (can_run, sym c.is_sound.ensures ∙ not-true _ c.if-not-is_sound.true))
+returns-then-not-is_sound c = sym (rw (can_run, sym c.is_sound.ensures ∙ c.if-not-is_sound.true))
 
 pub returns : goal.returns
 returns c =
     let t = c in
     let a = t.args in
     let steps = c.total_steps in
-    can_run_next a.plan a.state steps.result (sym t.is_sound.ensures ∙ not-false _ t.if-not-is_sound.false) steps.ensures
+    can_run_next a.plan a.state steps.result (sym t.is_sound.ensures ∙ t.if-not-is_sound.false) steps.ensures

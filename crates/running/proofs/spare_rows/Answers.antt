@@ -10,11 +10,8 @@ use lib.ListN.{get_or}
 use Rattle.bank.specs.Limits.{ROWS, PASSES}
 use Rattle.algebra.proofs.Search.{any_intro, none_intro}
 use mathlib.Core.List.{List}
+use Rattle.running.proofs.spare_rows.Invariants.{test}
 use Rattle.running.proofs.spare_rows.Goals as goal
-
--- what is asked of place q
-abbrev test : List ℕ → ℕ → ℕ → ℕ → Bool
-test rows count n q = (leb count (q / ROWS) || leb n (q % ROWS)) && not (eqb (get_or rows q 0) 0)
 
 pub loop-q-init : goal.loop-q-init
 loop-q-init c = (omega arith, λ k h. absurd (omega arith))

@@ -12,6 +12,10 @@ use Rattle.algebra.proofs.Search.{any_intro, none_intro}
 use mathlib.Core.List.{List}
 use Rattle.running.proofs.spare_rows.Given as goal
 
+-- what is asked of place q
+abbrev pub test : List ℕ → ℕ → ℕ → ℕ → Bool
+test rows count n q = (leb count (q / ROWS) || leb n (q % ROWS)) && not (eqb (get_or rows q 0) 0)
+
 abbrev pub invariant-loop-q : goal.invariant-loop-q
 invariant-loop-q l = (l.q ≤ PASSES * ROWS) × ((k : ℕ) → k < l.q → test l.rows l.count l.n k ≡ false)
 

@@ -11,11 +11,8 @@ use Rattle.running.proofs.Judging.{part_matrix}
 use Rattle.bank.specs.Limits.{ROWS}
 use Rattle.algebra.proofs.Search.{any_intro, none_intro}
 use mathlib.Core.List.{List}
+use Rattle.running.proofs.spilling_passes.Invariants.{test}
 use Rattle.running.proofs.spilling_passes.Goals as goal
-
--- what is asked of pass p
-abbrev test : List ℕ → ℕ → ℕ → ℕ → ℕ → Bool
-test rows n b m p = spills b m (take n (drop (p * ROWS) rows))
 
 pub loop-p-init : goal.loop-p-init
 loop-p-init c = (omega arith, λ k h. absurd (omega arith))

@@ -13,6 +13,10 @@ use Rattle.algebra.proofs.Search.{any_intro, none_intro}
 use mathlib.Core.List.{List}
 use Rattle.running.proofs.spilling_passes.Given as goal
 
+-- what is asked of pass p
+abbrev pub test : List ℕ → ℕ → ℕ → ℕ → ℕ → Bool
+test rows n b m p = spills b m (take n (drop (p * ROWS) rows))
+
 abbrev pub invariant-loop-p : goal.invariant-loop-p
 invariant-loop-p l = (l.p ≤ l.count) × ((k : ℕ) → k < l.p → test l.rows l.n l.b l.m k ≡ false)
 

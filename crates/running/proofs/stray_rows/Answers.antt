@@ -12,11 +12,8 @@ use Rattle.running.proofs.Judging.{part_stray}
 use Rattle.bank.specs.Limits.{ROWS}
 use Rattle.algebra.proofs.Search.{any_intro, none_intro}
 use mathlib.Core.List.{List}
+use Rattle.running.proofs.stray_rows.Invariants.{test}
 use Rattle.running.proofs.stray_rows.Goals as goal
-
--- what is asked of pass p
-abbrev test : List ℕ → ℕ → ℕ → ℕ → Bool
-test rows n size p = any_below (λ i. leb size (get_or rows (p * ROWS + i) 0)) n
 
 pub loop-p-init : goal.loop-p-init
 loop-p-init c = (omega arith, λ k h. absurd (omega arith))

@@ -14,6 +14,10 @@ use Rattle.algebra.proofs.Search.{any_intro, none_intro}
 use mathlib.Core.List.{List}
 use Rattle.running.proofs.stray_rows.Given as goal
 
+-- what is asked of pass p
+abbrev pub test : List ℕ → ℕ → ℕ → ℕ → Bool
+test rows n size p = any_below (λ i. leb size (get_or rows (p * ROWS + i) 0)) n
+
 abbrev pub invariant-loop-p : goal.invariant-loop-p
 invariant-loop-p l = (l.p ≤ l.count) × ((k : ℕ) → k < l.p → test l.rows l.n l.size k ≡ false)
 

@@ -10,16 +10,13 @@ use lib.Seq.{paste, paste-zero, paste-suc}
 use Rattle.bank.specs.Limits.{ROWS, PASSES}
 use Rattle.planning.specs.declared.Plan.{Plan}
 use Rattle.store.specs.Store.{with_pass}
+use Rattle.store.proofs.with_pass.Invariants.{with_rows}
 use Rattle.store.proofs.with_pass.Goals as goal
-
--- the plan with other rows
-abbrev with_rows : Plan → List ℕ → Plan
-with_rows plan rows = record { geometry = plan.geometry; blanks = plan.blanks; count = plan.count; rows = rows; complements = plan.complements }
 
 pub loop-i-init : goal.loop-i-init
 loop-i-init c =
     let a = c.args in
-    (omega arith, refl, c.requires, search rules, search rules, search rules, ap (with_rows a.plan) (paste-zero a.plan.rows (a.p * ROWS) a.t3))
+    (omega arith, refl, c.requires, search rules, search rules, search rules, ap (with_rows a.plan) (paste-zero a.plan.rows (a.p * ROWS) a.rows))
 
 pub loop-i-preserved : goal.loop-i-preserved
 loop-i-preserved c =
@@ -32,8 +29,8 @@ loop-i-preserved c =
       l.invariant.4,
       l.invariant.5,
       rw (add-one l.i)
-          (ap (λ (plan : Plan). with_rows plan (set plan.rows (a.p * ROWS + l.i) (get_or a.t3 l.i 0))) l.invariant.6
-          ∙ ap (with_rows a.plan) (paste-suc a.plan.rows (a.p * ROWS) a.t3 l.i 0 (omega arith) (omega arith))),
+          (ap (λ (plan : Plan). with_rows plan (set plan.rows (a.p * ROWS + l.i) (get_or a.rows l.i 0))) l.invariant.6
+          ∙ ap (with_rows a.plan) (paste-suc a.plan.rows (a.p * ROWS) a.rows l.i 0 (omega arith) (omega arith))),
     )
 
 pub returns : goal.returns

@@ -12,6 +12,10 @@ use Rattle.planning.specs.declared.Plan.{Plan}
 use Rattle.store.specs.Store.{with_pass}
 use Rattle.store.proofs.with_pass.Given as goal
 
+-- the plan with other rows
+abbrev pub with_rows : Plan → List ℕ → Plan
+with_rows plan rows = record { geometry = plan.geometry; blanks = plan.blanks; count = plan.count; rows = rows; complements = plan.complements }
+
 abbrev pub invariant-loop-i : goal.invariant-loop-i
 invariant-loop-i l =
     (l.i ≤ ROWS) × (l.base ≡ l.p * ROWS) × (l.p < PASSES) × (length l.initial.out.rows ≡ PASSES * ROWS) × (length l.initial.out.complements ≡ PASSES) × (length l.rows ≡ ROWS)

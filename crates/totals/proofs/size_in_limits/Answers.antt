@@ -6,9 +6,9 @@ use Rattle.totals.proofs.Total.{size_asked}
 use Rattle.totals.proofs.size_in_limits.Goals as goal
 
 pub returns-then-not-in_limits : goal.returns-then-not-in_limits
-returns-then-not-in_limits c = sym (rw (sym c.in_limits.ensures ∙ not-true _ c.if-not-in_limits.true))
+returns-then-not-in_limits c = sym (rw (sym c.in_limits.ensures ∙ c.if-not-in_limits.true))
 
 pub returns : goal.returns
 returns c =
     let t = c in
-    sym (size_asked t.args.plan (sym t.in_limits.ensures ∙ not-false _ t.if-not-in_limits.false))
+    sym (size_asked t.args.plan (sym t.in_limits.ensures ∙ t.if-not-in_limits.false))

@@ -8,12 +8,6 @@ use Rattle.words.specs.Says.{DIGITS}
 use Rattle.words.proofs.Numbers.{ReadTo, none_byte, none_empty, none_long, none_zero, read_all, read_more, read_none, read_small}
 use Rattle.words.proofs.read_number.Goals as goal
 
--- the bytes read so far are too few for a value that wraps
-value-small : (c : goal.Else-d-gt9) → c.loop-i.value < 10 ^ DIGITS
-value-small c =
-    let l = c.loop-i in
-    read_small c.args.word.now l.i l.value l.invariant (omega arith)
-
 pub returns-then-size-eq0 : goal.returns-then-size-eq0
 returns-then-size-eq0 c = none_empty c.args.word.now (omega arith)
 
@@ -35,10 +29,18 @@ returns-then-d-gt9 c =
     (λ d. c.digit-d.ensures.none (omega arith) d.0 d.1)
 
 pub overflow_mul-value : goal.overflow_mul-value
-overflow_mul-value c = omega (arith, value-small c)
+overflow_mul-value c =
+    let value-small : c.loop-i.value < 10 ^ DIGITS =
+        λ = let l. c.loop-i in
+    read_small c.args.word.now l.i l.value l.invariant (omega arith) in
+    omega (arith, value-small)
 
 pub overflow_add-value : goal.overflow_add-value
-overflow_add-value c = omega (arith, value-small c)
+overflow_add-value c =
+    let value-small : c.loop-i.value < 10 ^ DIGITS =
+        λ = let l. c.loop-i in
+    read_small c.args.word.now l.i l.value l.invariant (omega arith) in
+    omega (arith, value-small)
 
 pub loop-i-preserved : goal.loop-i-preserved
 loop-i-preserved c =

@@ -18,13 +18,13 @@ pub move_between-requires : goal.move_between-requires
 move_between-requires c =
     let at = c in
     let s = at in
-    side_ready s.args.t s.args.s.0 (buffers_of s.args.area0.now s.args.area1.now s.args.memory.now) zeroth at.standing_of-at.ensures s.pre
+    side_ready s.args.t s.args.s.0 (buffers_of s.args.area0.now s.args.area1.now s.args.memory.now) zeroth at.standing_of-at.ensures s.requires
 
 pub move_between-requires-else-side-eq0 : goal.move_between-requires-else-side-eq0
 move_between-requires-else-side-eq0 c =
     let at = c in
     let s = at in
-    side_ready s.args.t s.args.s.0 (buffers_of s.args.area0.now s.args.area1.now s.args.memory.now) first at.standing_of-at.ensures s.pre
+    side_ready s.args.t s.args.s.0 (buffers_of s.args.area0.now s.args.area1.now s.args.memory.now) first at.standing_of-at.ensures s.requires
 
 pub returns-then-side-eq0 : goal.returns-then-side-eq0
 returns-then-side-eq0 c =
@@ -33,7 +33,7 @@ returns-then-side-eq0 c =
     let at = then in
     let s = at in
     let w = moved.move_between in
-    side_move s.args.t s.args.s.0 (buffers_of s.args.area0.now s.args.area1.now s.args.memory.now) zeroth at.standing-of.ensures (rw (eq-eqb (s.args.t.pass % 2) 0 then.if1.true))
+    side_move s.args.t s.args.s.0 (buffers_of s.args.area0.now s.args.area1.now s.args.memory.now) zeroth at.standing_of-at.ensures (rw (eq-eqb (s.args.t.pass % 2) 0 then.if-side-eq0.true))
     w.ensures.0 w.ensures.1 w.ensures.2
 
 pub returns-else-side-eq0 : goal.returns-else-side-eq0
@@ -43,5 +43,5 @@ returns-else-side-eq0 c =
     let at = else in
     let s = at in
     let w = moved.move_between-else-side-eq0 in
-    side_move s.args.t s.args.s.0 (buffers_of s.args.area0.now s.args.area1.now s.args.memory.now) first at.standing-of.ensures (rw (ne_eqb (s.args.t.pass % 2) 0 else.if1.false))
+    side_move s.args.t s.args.s.0 (buffers_of s.args.area0.now s.args.area1.now s.args.memory.now) first at.standing_of-at.ensures (rw (ne_eqb (s.args.t.pass % 2) 0 else.if-side-eq0.false))
     w.ensures.0 w.ensures.1 w.ensures.2

@@ -9,18 +9,19 @@ use Rattle.algebra.specs.Carry.{place_by}
 use borrow.Author.Rules.{rules}
 use Rattle.blocks.proofs.moves.write_block.Goals as goal
 
-long : (s : goal.Start) → length (part (s.args.block.0 * (s.args.count * s.args.r)) ((s.args.block.0 * (s.args.count * s.args.r)) + (s.args.count * s.args.r)) s.args.area.now) ≡ (s.args.count * s.args.r)
-long s = length_part (s.args.block.0 * (s.args.count * s.args.r)) ((s.args.block.0 * (s.args.count * s.args.r)) + (s.args.count * s.args.r)) s.args.area.now s.requires.0.1 ∙ omega arith
-
 pub fill_block-requires : goal.fill_block-requires
 fill_block-requires c =
+    let long : length (part (c.args.block.0 * (c.args.count * c.args.r)) ((c.args.block.0 * (c.args.count * c.args.r)) + (c.args.count * c.args.r)) c.args.area.now) ≡ (c.args.count * c.args.r) =
+        length_part (c.args.block.0 * (c.args.count * c.args.r)) ((c.args.block.0 * (c.args.count * c.args.r)) + (c.args.count * c.args.r)) c.args.area.now c.requires.0.1 ∙ omega arith in
     let s = c in
-    ((pos_right s.args.count s.args.r 0 s.requires.0.0, long s), s.requires.1)
+    ((pos_right s.args.count s.args.r 0 s.requires.0.0, long), s.requires.1)
 
 pub returns : goal.returns
 returns c =
+    let long : length (part (c.args.block.0 * (c.args.count * c.args.r)) ((c.args.block.0 * (c.args.count * c.args.r)) + (c.args.count * c.args.r)) c.args.area.now) ≡ (c.args.count * c.args.r) =
+        length_part (c.args.block.0 * (c.args.count * c.args.r)) ((c.args.block.0 * (c.args.count * c.args.r)) + (c.args.count * c.args.r)) c.args.area.now c.requires.0.1 ∙ omega arith in
     let s = c in
     let x = s.args in
     block_back x.count x.r s.requires.0.0 (place_by x.place x.columns.now) x.memory.now x.area.now
     (part (s.args.block.0 * (s.args.count * s.args.r)) ((s.args.block.0 * (s.args.count * s.args.r)) + (s.args.count * s.args.r)) x.area.now) c.fill_block.new.0 x.block.0 (s.args.block.0 * (s.args.count * s.args.r)) ((s.args.block.0 * (s.args.count * s.args.r)) + (s.args.count * s.args.r) - (s.args.block.0 * (s.args.count * s.args.r))) refl (omega arith)
-    s.requires.0.1 (long s) c.fill_block.ensures
+    s.requires.0.1 long c.fill_block.ensures

@@ -11,9 +11,6 @@ use Rattle.algebra.proofs.Carry.{place_next, place_zero}
 use Rattle.algebra.specs.Carry.{place_by}
 use Rattle.blocks.proofs.moves.write_drives.Goals as goal
 
-same : (c : goal.At-loop-q) → length c.loop-q.area ≡ length c.args.area.now
-same c = ap length c.loop-q.invariant.1 ∙ length-copied _ _ _ _ _
-
 pub loop-q-init : goal.loop-q-init
 loop-q-init c =
     let s = c in
@@ -29,11 +26,13 @@ loop-q-init c =
 
 pub write_block-requires : goal.write_block-requires
 write_block-requires c =
+    let same : length c.loop-q.area ≡ length c.args.area.now =
+        ap length c.loop-q.invariant.1 ∙ length-copied _ _ _ _ _ in
     let tier = c in
     let l = tier.loop-q in
     let s = tier in (
-      (s.pre.0.0, rw (l.invariant.3, same tier) (s.pre.1.1.0 l.q tier.loop-q-test.true)),
-      rw l.invariant.5 (s.pre.1.1.1 l.q tier.loop-q-test.true),
+      (s.requires.0.0, rw (l.invariant.3, same) (s.requires.1.1.0 l.q tier.loop-q-test.true)),
+      rw l.invariant.5 (s.requires.1.1.1 l.q tier.loop-q-test.true),
     )
 
 pub loop-q-preserved : goal.loop-q-preserved
@@ -41,19 +40,19 @@ loop-q-preserved c =
     let two = c in
     let one = two in
     let tier = one in
-    let l = tier.loop in
+    let l = tier.loop-q in
     let s = tier in
     let x = s.args in
     let Y = place_by x.first.0 x.blocks.now in
     let P = place_by x.place x.places.now in (
       omega arith,
-      one.write-block.ensures
+      one.write_block.ensures
           ∙ drives_once Y x.drives P x.columns.now x.r x.count x.memory.now x.area.now l.area-1 l.q l.block.0 l.p
-          l.invariant.1 l.invariant.3 (ap (λ (k : ℕ). k % x.drives) l.invariant.3 ∙ s.pre.1.0 l.q tier.loop-test.true) l.invariant.5,
+          l.invariant.1 l.invariant.3 (ap (λ (k : ℕ). k % x.drives) l.invariant.3 ∙ s.requires.1.0 l.q tier.loop-q-test.true) l.invariant.5,
       xor_lt 64 l.block.0 two.flip.result l.invariant.2 (omega (arith, two.flip.type-inv)),
       rw (two.flip.ensures, l.invariant.3) (place_next x.first.0 x.blocks.now l.q),
-      xor_lt WORD l.p one.flip.result l.invariant.4 (omega (arith, one.flip.type-inv)),
-      rw (one.flip.ensures, l.invariant.5) (place_next x.place x.places.now l.q),
+      xor_lt WORD l.p one.flip-p.result l.invariant.4 (omega (arith, one.flip-p.type-inv)),
+      rw (one.flip-p.ensures, l.invariant.5) (place_next x.place x.places.now l.q),
     )
 
 pub returns : goal.returns
@@ -76,4 +75,6 @@ pub overflow_cast-y : goal.overflow_cast-y
 overflow_cast-y c = omega (arith, c.flip.type-inv)
 
 pub shape_of-area : goal.shape_of-area
-shape_of-area c = same c
+shape_of-area c = let same : length c.loop-q.area ≡ length c.args.area.now =
+        ap length c.loop-q.invariant.1 ∙ length-copied _ _ _ _ _ in
+    same

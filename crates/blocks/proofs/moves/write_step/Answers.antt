@@ -16,48 +16,42 @@ use borrow.Author.Rules.{rules}
 use Rattle.bank.proofs.Limits.{Allowed, limits, limits→allowed}
 use Rattle.blocks.proofs.moves.write_step.Goals as goal
 
-abbrev ok : (s : goal.Start) → Allowed s.args.t.geometry
-ok s = limits→allowed s.args.t.geometry s.requires.in_load_lem.inside
-
-goes-is : (c : goal.After-first_block-block) → c.Goes-to.result.0
-    ≡ target (pass_for c.args.t).rows c.args.t.complement (c.args.load * memory_size c.args.t.geometry)
-goes-is c = rw c.power.ensures at c.Goes-to.ensures
-
--- the parts of the tables that are lent end inside them
-room : (c : goal.After-first_block-block) → let t = c.args.t in
-    (t.geometry.b + t.geometry.d ≤ length t.blocks) × (t.geometry.b ≤ length t.columns)
-    × (t.geometry.b + t.geometry.d ≤ length t.columns)
-room c =
-    let k = ok c in
-    let columns = columns_room c.requires.prepared in
-    (le_trans k.drives_fit (blocks_room c.requires.prepared), omega arith, le_trans k.drives_fit columns)
-
 pub overflow_mul-first : goal.overflow_mul-first
 overflow_mul-first c =
+    let ok : Allowed c.args.t.geometry =
+        limits→allowed c.args.t.geometry c.requires.in_load_lem.inside in
     let s = c in
-    record { fits = rw c.power.ensures (omega (arith, load_lt s.requires.in_load_lem, records_fit (ok s))) }
+    record { fits = rw c.power.ensures (omega (arith, load_lt s.requires.in_load_lem, records_fit ok)) }
 
 pub goes_to-goes-requires : goal.goes_to-goes-requires
 goes_to-goes-requires c = let s = c in (s.requires.in_load_lem.inside, rw c.power.ensures (load_lt s.requires.in_load_lem))
 
 pub write_drives-requires : goal.write_drives-requires
 write_drives-requires c =
+    let ok : Allowed c.args.t.geometry =
+        limits→allowed c.args.t.geometry c.requires.in_load_lem.inside in
+    let goes-is : c.Goes-to.result.0
+    ≡ target (pass_for c.args.t).rows c.args.t.complement (c.args.load * memory_size c.args.t.geometry) =
+        rw c.power.ensures at c.Goes-to.ensures in
     let f = c in
     let s = f in
     let place = f.first_place-place.ensures in
     let first = f.first_block-block.ensures in
     rw (c.power-2.ensures, c.power-3.ensures) (
-      (mul-pos (pow_pos s.args.t.geometry.b) (ok s).r_low, pow_pos s.args.t.geometry.d),
-      (on_drive s.pre (goes-is f) place first, (in_area s.pre (goes-is f) place first, in_memory s.pre (goes-is f) place first)),
+      (mul-pos (pow_pos s.args.t.geometry.b) ok.r_low, pow_pos s.args.t.geometry.d),
+      (on_drive s.requires goes-is place first, (in_area s.requires goes-is place first, in_memory s.requires goes-is place first)),
     )
 
 pub returns : goal.returns
 returns c =
+    let goes-is : c.Goes-to.result.0
+    ≡ target (pass_for c.args.t).rows c.args.t.complement (c.args.load * memory_size c.args.t.geometry) =
+        rw c.power.ensures at c.Goes-to.ensures in
     let p = c in
     let f = p in
     c.write_drives.ensures
     ∙ rw (p.power-2.ensures, p.power-3.ensures)
-    (write_is f.requires (goes-is f) f.first-place.ensures f.first_block.ensures)
+    (write_is f.requires goes-is f.first_place-place.ensures f.first_block-block.ensures)
 
 pub power-requires : goal.power-requires
 power-requires c = search (rules, limits)
@@ -66,13 +60,34 @@ pub first_block-block-requires : goal.first_block-block-requires
 first_block-block-requires c = search (rules, limits)
 
 pub slice_bounds-write_drives-end : goal.slice_bounds-write_drives-end
-slice_bounds-write_drives-end c = (room c).0
+slice_bounds-write_drives-end c = let ok : Allowed c.args.t.geometry =
+        limits→allowed c.args.t.geometry c.requires.in_load_lem.inside in
+    let room : let t = c.args.t in
+    (t.geometry.b + t.geometry.d ≤ length t.blocks) × (t.geometry.b ≤ length t.columns)
+    × (t.geometry.b + t.geometry.d ≤ length t.columns) =
+        λ = let k = ok in let columns. columns_room c.requires.prepared in
+    (le_trans k.drives_fit (blocks_room c.requires.prepared), omega arith, le_trans k.drives_fit columns) in
+    room.0
 
 pub slice_bounds-write_drives-end-2 : goal.slice_bounds-write_drives-end-2
-slice_bounds-write_drives-end-2 c = (room c).1
+slice_bounds-write_drives-end-2 c = let ok : Allowed c.args.t.geometry =
+        limits→allowed c.args.t.geometry c.requires.in_load_lem.inside in
+    let room : let t = c.args.t in
+    (t.geometry.b + t.geometry.d ≤ length t.blocks) × (t.geometry.b ≤ length t.columns)
+    × (t.geometry.b + t.geometry.d ≤ length t.columns) =
+        λ = let k = ok in let columns. columns_room c.requires.prepared in
+    (le_trans k.drives_fit (blocks_room c.requires.prepared), omega arith, le_trans k.drives_fit columns) in
+    room.1
 
 pub slice_bounds-write_drives-end-3 : goal.slice_bounds-write_drives-end-3
-slice_bounds-write_drives-end-3 c = (room c).2
+slice_bounds-write_drives-end-3 c = let ok : Allowed c.args.t.geometry =
+        limits→allowed c.args.t.geometry c.requires.in_load_lem.inside in
+    let room : let t = c.args.t in
+    (t.geometry.b + t.geometry.d ≤ length t.blocks) × (t.geometry.b ≤ length t.columns)
+    × (t.geometry.b + t.geometry.d ≤ length t.columns) =
+        λ = let k = ok in let columns. columns_room c.requires.prepared in
+    (le_trans k.drives_fit (blocks_room c.requires.prepared), omega arith, le_trans k.drives_fit columns) in
+    room.2
 
 pub power-requires-2 : goal.power-requires-2
 power-requires-2 c = search (rules, limits)

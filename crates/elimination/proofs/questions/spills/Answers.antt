@@ -13,6 +13,7 @@ use Rattle.algebra.proofs.Built.{built_count, built_next}
 use Rattle.algebra.proofs.Questions.{spills_no, spills_yes, through_next}
 use Rattle.algebra.proofs.Spill.{Through, through_zero}
 use Rattle.elimination.proofs.questions.spills.Goals as goal
+use Rattle.elimination.proofs.questions.spills.Goals.{then-left-eq0+else-apply_part-gt0, else-left-eq0}
 
 pub loop-j-init : goal.loop-j-init
 unfolding built
@@ -55,7 +56,7 @@ loop-j-preserved c =
       built_next ROWS _ _ _ _ l.invariant.1 (search rules),
       through_next a.rows.now a.b a.m a.n s.requires.0 s.requires.1 ROWS s.requires.2 (omega arith) _ k.ensures
           l.j _ _ _ _ (search rules) l.invariant.1 r.ensures.0 p.ensures r.ensures.1
-          (⊎_elim (λ t. inl (t.0.taken, sym t.1.ensures ∙ omega (arith, t.2.left))) (λ t. inr t.left) c.if-left-eq0.branch) l.invariant.2,
+          (elim c.if-left-eq0.branch [ then-left-eq0+else-apply_part-gt0 w ↦ inl (w.if-left-eq0.true, omega (arith, w.apply_part.ensures, w.if-apply_part-gt0.false)) | else-left-eq0 w ↦ inr w.if-left-eq0.false ]) l.invariant.2,
     )
 
 pub returns : goal.returns

@@ -13,9 +13,6 @@ use Rattle.writing.proofs.Refused.{line-written}
 use Rattle.entries.proofs.Written.{first_part, rows_part, all_parts, parts_long, parts_small, found_none, found_parts}
 use Rattle.entries.proofs.answer.write_found.Goals as goal
 
-first-line : (k : goal.After-put_line-i) → Wrote (room k) 0 (first_part (found k)) k.put-line.new.0 k.put-line.result
-first-line k = wrote_as [] (found k).n k.put-line.ensures k.wide.ensures
-
 -- ---- the needs
 pub returns-then-found : goal.returns-then-found
 returns-then-found c =
@@ -27,17 +24,23 @@ put_line-i-requires c = omega (arith, roomy c, same_size [] c.wide.ensures)
 
 pub put_rows-j-requires : goal.put_rows-j-requires
 put_rows-j-requires c =
+    let first-line : Wrote (room c) 0 (first_part (found c)) c.put_line-i.new.0 c.put_line-i.result =
+        wrote_as [] (found c).n c.put_line-i.ensures c.wide.ensures in
     let k = c in
-    (few k, wrote_fits (first-line k) (length (rows_part (found k))) (omega (arith, roomy k)))
+    (few k, wrote_fits first-line (length (rows_part (found k))) (omega (arith, roomy k)))
 
 pub put_row-requires : goal.put_row-requires
 put_row-requires c =
+    let first-line : Wrote (room c) 0 (first_part (found c)) c.put_line-i.new.0 c.put_line-i.result =
+        wrote_as [] (found c).n c.put_line-i.ensures c.wide.ensures in
     let k = c in
     let last = (found k).n + 1 in
-    wrote_fits c.put_rows-j.ensures last (wrote_fits (first-line k) (length (rows_part (found k)) + last) (omega (arith, roomy k)))
+    wrote_fits c.put_rows-j.ensures last (wrote_fits first-line (length (rows_part (found k)) + last) (omega (arith, roomy k)))
 
 pub returns : goal.returns
 returns c =
+    let first-line : Wrote (room c) 0 (first_part (found c)) c.put_line-i.new.0 c.put_line-i.result =
+        wrote_as [] (found c).n c.put_line-i.ensures c.wide.ensures in
     let k = c in
     line-written _ _ _ _ _ (sym (found_parts (found k) (few k))) (fits k)
-    (wrote_three (first-line k) c.put_rows-j.ensures c.put_row.ensures (omega (arith, roomy k)))
+    (wrote_three first-line c.put_rows-j.ensures c.put_row.ensures (omega (arith, roomy k)))

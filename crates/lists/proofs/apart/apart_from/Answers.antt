@@ -11,32 +11,35 @@ use Rattle.lists.proofs.AllBits.{all-bits_ext}
 use Rattle.lists.proofs.Parts.{apart_in, low_long, parts_whole}
 use Rattle.lists.proofs.apart.apart_from.Goals as goal
 
--- the low bits are some of the n, and few enough for the array
-few : (c : goal.After-power-parts) → (c.low_bits-h.result ≤ c.args.n) × (c.power-count.result ≤ LOW)
-few c =
-    let h = c.low_bits-h.result in
-    let upto : h ≤ LOW-BITS = omega (arith, c.low_bits-h.ensures) in
-    (omega (arith, c.low_bits-h.ensures), omega (arith, c.power-count.ensures, pow_mono {i = h} {j = LOW-BITS} upto))
-
 pub low_targets-low-requires : goal.low_targets-low-requires
-low_targets-low-requires c = (few c).1
+low_targets-low-requires c =
+    let few : (c.low_bits-h.result ≤ c.args.n) × (c.power-count.result ≤ LOW) =
+        λ = let h = c.low_bits-h.result in let upto : h ≤ LOW-BITS = omega (arith, c.low_bits-h.ensures) in (omega (arith, c.low_bits-h.ensures), omega (arith, c.power-count.ensures, pow_mono {i = h} {j. LOW-BITS} upto)) in
+    few.1
 
 pub slice_bounds-apart_parts-end : goal.slice_bounds-apart_parts-end
-slice_bounds-apart_parts-end c = omega (arith, (few c).1, c.low_targets-low.type-inv)
+slice_bounds-apart_parts-end c =
+    let few : (c.low_bits-h.result ≤ c.args.n) × (c.power-count.result ≤ LOW) =
+        λ = let h = c.low_bits-h.result in let upto : h ≤ LOW-BITS = omega (arith, c.low_bits-h.ensures) in (omega (arith, c.low_bits-h.ensures), omega (arith, c.power-count.ensures, pow_mono {i = h} {j. LOW-BITS} upto)) in
+    omega (arith, few.1, c.low_targets-low.type-inv)
 
 pub apart_parts-requires : goal.apart_parts-requires
 apart_parts-requires c =
+    let few : (c.low_bits-h.result ≤ c.args.n) × (c.power-count.result ≤ LOW) =
+        λ = let h = c.low_bits-h.result in let upto : h ≤ LOW-BITS = omega (arith, c.low_bits-h.ensures) in (omega (arith, c.low_bits-h.ensures), omega (arith, c.power-count.ensures, pow_mono {i = h} {j. LOW-BITS} upto)) in
     let p = c in
     let s = p in
     let h = p.low_bits-h.result in
     let n = s.args.n in
-    s.requires.1 ∙ pow_split h n (few p).0
+    s.requires.1 ∙ pow_split h n few.0
     ∙ sym (ap₂ (λ (x y : ℕ). x * y) p.power-parts.ensures
     (low_long s.args.columns c.low_targets-low.result (replicate (LOW - p.power-count.result) 0) s.args.base n h
-    p.power-count.result (few p).0 (omega (arith, s.requires.0, s.well-formed)) p.power-count.ensures c.low_targets-low.ensures))
+    p.power-count.result few.0 (omega (arith, s.requires.0, s.well-formed)) p.power-count.ensures c.low_targets-low.ensures))
 
 pub returns : goal.returns
 returns c =
+    let few : (c.low_bits-h.result ≤ c.args.n) × (c.power-count.result ≤ LOW) =
+        λ = let h = c.low_bits-h.result in let upto : h ≤ LOW-BITS = omega (arith, c.low_bits-h.ensures) in (omega (arith, c.low_bits-h.ensures), omega (arith, c.power-count.ensures, pow_mono {i = h} {j. LOW-BITS} upto)) in
     let p = c in
     let s = p in
     let h = p.low_bits-h.result in
@@ -45,5 +48,5 @@ returns c =
     c.apart_parts.ensures
     ∙ all-bits_ext (apart_in s.args.list.now (take (p.power-count.result - 0) low.result) (take (n - h) (drop h s.args.columns)))
     (apart_at s.args.list.now s.args.base (take n s.args.columns)) (length s.args.list.now)
-    (λ x l. parts_whole s.args.columns low.result (replicate (LOW - p.power-count.result) 0) s.args.base n h p.power-count.result (few p).0
+    (λ x l. parts_whole s.args.columns low.result (replicate (LOW - p.power-count.result) 0) s.args.base n h p.power-count.result few.0
     (omega (arith, s.requires.0, s.well-formed)) p.power-count.ensures low.ensures s.args.list.now x)

@@ -16,13 +16,6 @@ use Rattle.lists.specs.Apart.{all_bits}
 use Rattle.lists.proofs.Parts.{apart_in, part_once}
 use Rattle.lists.proofs.apart.apart_parts.Goals as goal
 
--- part q lies in the list
-in_list : (c : goal.In-loop-q)
-    → c.loop-q.o + length c.args.low.now ≤ length c.args.list.now
-in_list c =
-    let s = c in
-    omega (arith, c.loop-q.invariant.1, s.requires, share c.loop-q.q s.args.parts (length s.args.low.now) c.loop-q-test.true)
-
 pub loop-q-init : goal.loop-q-init
 unfolding all_bits
 loop-q-init c =
@@ -30,13 +23,25 @@ loop-q-init c =
     (zero-le, sym (zero-mul (length s.low.now)), refl, lit< tt, place_zero 0 s.high.now)
 
 pub overflow_add-e : goal.overflow_add-e
-overflow_add-e c = omega (arith, in_list c)
+overflow_add-e c =
+    let in_list : c.loop-q.o + length c.args.low.now ≤ length c.args.list.now =
+        λ = let s. c in
+    omega (arith, c.loop-q.invariant.1, s.requires, share c.loop-q.q s.args.parts (length s.args.low.now) c.loop-q-test.true) in
+    omega (arith, in_list)
 
 pub offset_bounds-list-o : goal.offset_bounds-list-o
-offset_bounds-list-o c = omega (arith, in_list c)
+offset_bounds-list-o c =
+    let in_list : c.loop-q.o + length c.args.low.now ≤ length c.args.list.now =
+        λ = let s. c in
+    omega (arith, c.loop-q.invariant.1, s.requires, share c.loop-q.q s.args.parts (length s.args.low.now) c.loop-q-test.true) in
+    omega (arith, in_list)
 
 pub slice_bounds-apart_here-end : goal.slice_bounds-apart_here-end
-slice_bounds-apart_here-end c = omega (arith, in_list c)
+slice_bounds-apart_here-end c =
+    let in_list : c.loop-q.o + length c.args.low.now ≤ length c.args.list.now =
+        λ = let s. c in
+    omega (arith, c.loop-q.invariant.1, s.requires, share c.loop-q.q s.args.parts (length s.args.low.now) c.loop-q-test.true) in
+    omega (arith, in_list)
 
 pub apart_here-off-requires : goal.apart_here-off-requires
 apart_here-off-requires c =
@@ -47,13 +52,16 @@ apart_here-off-requires c =
 
 pub loop-q-preserved : goal.loop-q-preserved
 loop-q-preserved c =
+    let in_list : c.loop-q.o + length c.args.low.now ≤ length c.args.list.now =
+        λ = let s. c in
+    omega (arith, c.loop-q.invariant.1, s.requires, share c.loop-q.q s.args.parts (length s.args.low.now) c.loop-q-test.true) in
     let i = c in
     let s = i.args in
     let l = i.loop-q in
     let K = length s.low.now in (
       omega arith,
       ap (λ (k : ℕ). k + K) l.invariant.1 ∙ sym (ap (λ (k : ℕ). k * K) (add-one l.q) ∙ suc-mul l.q K),
-      part_once s.list.now s.low.now s.high.now l.q l.o (l.o + K) l.invariant.1 refl (in_list i) l.off c.wide.result
+      part_once s.list.now s.low.now s.high.now l.q l.o (l.o + K) l.invariant.1 refl in_list l.off c.wide.result
           c.apart_here-off.result l.invariant.2 (c.wide.ensures ∙ l.invariant.4) c.apart_here-off.ensures,
       xor_lt WORD l.change c.flip-change.result l.invariant.3 (omega (arith, c.flip-change.type-inv)),
       ap₂ bit_xor l.invariant.4 c.flip-change.ensures ∙ place_next 0 s.high.now l.q,

@@ -14,12 +14,6 @@ use Rattle.lists.proofs.Only.{columns_of_at, columns_of_length}
 use Rattle.lists.proofs.Words.{rest_in_word}
 use Rattle.lists.proofs.apart.columns_of.Goals as goal
 
--- entry 2 ^ j is in the list
-entry-there : (c : goal.After-power-at) → c.power-at.result < length c.args.list.now
-entry-there c =
-    let s = c in
-    omega (arith, c.power-at.ensures, s.requires.1, pow-lt {i = c.loop-j.j} {j = s.args.n} (omega arith))
-
 pub offset_bounds-list-at : goal.offset_bounds-list-at
 offset_bounds-list-at c = omega (arith, c.power-at.ensures, pow-lt {i = c.loop-j.j} {j = WORD} (omega arith))
 
@@ -52,7 +46,11 @@ pub loop-j-init : goal.loop-j-init
 loop-j-init c = (search rules, refl)
 
 pub bounds-list-at : goal.bounds-list-at
-bounds-list-at c = entry-there c
+bounds-list-at c = let entry-there : c.power-at.result < length c.args.list.now =
+        λ = let s = c in omega (arith, c.power-at.ensures, s.requires.1, pow-lt {i = c.loop-j.j} {j. s.args.n} (omega arith)) in
+    entry-there
 
 pub bounds-list-0 : goal.bounds-list-0
-bounds-list-0 c = omega (arith, entry-there c)
+bounds-list-0 c = let entry-there : c.power-at.result < length c.args.list.now =
+        λ = let s = c in omega (arith, c.power-at.ensures, s.requires.1, pow-lt {i = c.loop-j.j} {j. s.args.n} (omega arith)) in
+    omega (arith, entry-there)

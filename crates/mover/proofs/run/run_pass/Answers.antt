@@ -29,7 +29,7 @@ loop-i-preserved c =
     let l = once in
     let s = l in
     let kept = w.move_step.auto.1.1 in (
-      omega (arith, once.loop-test.true),
+      omega (arith, once.loop-i-test.true),
       kept.0 ∙ l.loop-i.invariant.1,
       kept.1.0 ∙ l.loop-i.invariant.2,
       kept.1.1.0 ∙ l.loop-i.invariant.3,

@@ -7,18 +7,23 @@ use borrow.Author.Rules.{rules}
 use Rattle.bank.proofs.Limits.{limits, limits→allowed}
 use Rattle.mover.proofs.step.lengths_fit.Goals as goal
 
--- the bytes of an area, as code works them out
-product : (c : goal.After-power) → c.power.result * c.wide-r.result ≡ 2 ^ c.args.g.n * c.args.g.r
-product c = rw (c.power.ensures, c.wide-r.ensures)
-
 pub overflow_mul-area : goal.overflow_mul-area
-overflow_mul-area c = let s = c in record { fits = rw (product c) (area_fits (limits→allowed s.args.g s.requires)) }
+overflow_mul-area c =
+    let product : c.power.result * c.wide-r.result ≡ 2 ^ c.args.g.n * c.args.g.r =
+        rw (c.power.ensures, c.wide-r.ensures) in
+    let s = c in record { fits = rw product (area_fits (limits→allowed s.args.g s.requires)) }
 
 pub returns-then-area0-area : goal.returns-then-area0-area
-returns-then-area0-area c = rw (← product c) (search tests)
+returns-then-area0-area c =
+    let product : c.power.result * c.wide-r.result ≡ 2 ^ c.args.g.n * c.args.g.r =
+        rw (c.power.ensures, c.wide-r.ensures) in
+    rw (← product) (search tests)
 
 pub returns-then-area1-area : goal.returns-then-area1-area
-returns-then-area1-area c = rw (← product c) (search tests)
+returns-then-area1-area c =
+    let product : c.power.result * c.wide-r.result ≡ 2 ^ c.args.g.n * c.args.g.r =
+        rw (c.power.ensures, c.wide-r.ensures) in
+    rw (← product) (search tests)
 
 pub overflow_mul-result : goal.overflow_mul-result
 overflow_mul-result c =
@@ -26,7 +31,10 @@ overflow_mul-result c =
     record { fits = rw (c.power-2.ensures, w.wide-r.ensures) (memory_fits (limits→allowed w.args.g w.requires)) }
 
 pub returns : goal.returns
-returns c = rw (← product c, ← c.power-2.ensures, ← c.wide-r.ensures) (search tests)
+returns c =
+    let product : c.power.result * c.wide-r.result ≡ 2 ^ c.args.g.n * c.args.g.r =
+        rw (c.power.ensures, c.wide-r.ensures) in
+    rw (← product, ← c.power-2.ensures, ← c.wide-r.ensures) (search tests)
 
 pub wide-r-requires : goal.wide-r-requires
 wide-r-requires c = search (rules, limits)

@@ -6,24 +6,30 @@ use Rattle.reading.specs.declared.number.Parsed.TheVariants.{Value}
 use borrow.Author.Rules.{rules}
 use Rattle.reading.proofs.number.field.Goals as goal
 
--- the number read
-got : (k : goal.In-Value-2) →
-    let a = k.args in
-    number_at a.text.now a.at ≡ Value k.v.given.0.0 k.v.given.0.1.0
-got k = sym k.number_at.ensures ∙ k.v.given.1
-
 pub returns-in_default : goal.returns-in_default
 unfolding field_at
 returns-in_default c = simp (sym c.number_at.ensures ∙ c.enum_told-1.given.1)
 
 pub returns-then-text-k : goal.returns-then-text-k
 unfolding field_at
-returns-then-text-k c = simp (got c, lt-ltb _ _ c.if-k-text.true, eq-eqb _ _ c.if-text-k.true)
+returns-then-text-k c =
+    let got : let a = c.args in
+    number_at a.text.now a.at ≡ Value c.v-1.given.0.0 c.v-1.given.0.1.0 =
+        sym c.number_at.ensures ∙ c.v-1.given.1 in
+    simp (got, lt-ltb _ _ c.if-k-text.true, eq-eqb _ _ c.if-text-k.true)
 
 pub returns-else-text-k : goal.returns-else-text-k
 unfolding field_at
-returns-else-text-k c = simp (got c, lt-ltb _ _ c.if-k-text.true, ne_eqb _ _ c.if-text-k.false)
+returns-else-text-k c =
+    let got : let a = c.args in
+    number_at a.text.now a.at ≡ Value c.v-1.given.0.0 c.v-1.given.0.1.0 =
+        sym c.number_at.ensures ∙ c.v-1.given.1 in
+    simp (got, lt-ltb _ _ c.if-k-text.true, ne_eqb _ _ c.if-text-k.false)
 
 pub returns-else-k-text : goal.returns-else-k-text
 unfolding field_at
-returns-else-k-text c = simp (got c, le-ltb _ _ c.if-k-text.false)
+returns-else-k-text c =
+    let got : let a = c.args in
+    number_at a.text.now a.at ≡ Value c.v-1.given.0.0 c.v-1.given.0.1.0 =
+        sym c.number_at.ensures ∙ c.v-1.given.1 in
+    simp (got, le-ltb _ _ c.if-k-text.false)

@@ -9,25 +9,6 @@ use Rattle.reading.proofs.Numbers.{digit_in, read_one, read_two, read_three}
 use borrow.Author.Rules.{rules}
 use Rattle.reading.proofs.number.number_at.Goals as goal
 
--- the number, by its third digit
-digits-read : (k : goal.After-digit_at-c) →
-    let a = k.args in
-    let d1 = k.digit_at.result in
-    let d2 = k.digit-at2.result in
-    let d3 = k.digit-at3.result in
-    (10 ≤ d3 → number_at a.text.now a.at ≡ Value (d1 * 10 + d2) (a.at + 2))
-    × (d3 < 10 → number_at a.text.now a.at ≡ Value (d1 * 100 + d2 * 10 + d3) (a.at + 3))
-digits-read k =
-    let a = k.args in
-    let d1 = k.digit_at in
-    let d2 = k.digit-at2 in
-    let e1 = sym d1.ensures in
-    let e2 = sym d2.ensures in
-    let e3 = sym k.digit-at3.ensures in (
-      λ h. read_two a.text.now a.at d1.result d2.result _ (omega arith) (omega arith) (omega arith) h e1 e2 e3,
-      λ h. read_three a.text.now a.at d1.result d2.result _ (omega arith) (omega arith) (omega arith) h e1 e2 e3,
-    )
-
 pub returns-then-a-ge10 : goal.returns-then-a-ge10
 unfolding number_at
 returns-then-a-ge10 c = simp (sym c.digit_at-a.ensures, le-leb _ _ c.if-a-ge10.true)
@@ -54,7 +35,18 @@ overflow_add-j c =
     omega (arith, digit_in a.text.now (a.at + 1) (omega arith))
 
 pub returns-then-c-ge10 : goal.returns-then-c-ge10
-returns-then-c-ge10 c = sym ((digits-read c).0 c.if-c-ge10.true)
+returns-then-c-ge10 c =
+    let digits-read : let a = c.args in
+    let d1 = c.digit_at-a.result in
+    let d2 = c.digit_at-b.result in
+    let d3 = c.digit_at-c.result in
+    (10 ≤ d3 → number_at a.text.now a.at ≡ Value (d1 * 10 + d2) (a.at + 2))
+    × (d3 < 10 → number_at a.text.now a.at ≡ Value (d1 * 100 + d2 * 10 + d3) (a.at + 3)) =
+        λ = let a = k.args in let d1 = k.digit_at in let d2 = k.digit_at-b in let e1 = sym d1.ensures in let e2 = sym d2.ensures in let e3. sym c.digit_at-c.ensures in (
+      λ h. read_two a.text.now a.at d1.result d2.result _ (omega arith) (omega arith) (omega arith) h e1 e2 e3,
+      λ h. read_three a.text.now a.at d1.result d2.result _ (omega arith) (omega arith) (omega arith) h e1 e2 e3,
+    ) in
+    sym (digits-read.0 c.if-c-ge10.true)
 
 pub overflow_add-result-4 : goal.overflow_add-result-4
 overflow_add-result-4 c =
@@ -62,4 +54,15 @@ overflow_add-result-4 c =
     omega (arith, digit_in a.text.now (a.at + 2) (omega arith))
 
 pub returns : goal.returns
-returns c = sym ((digits-read c).1 c.if-c-ge10.false)
+returns c =
+    let digits-read : let a = c.args in
+    let d1 = c.digit_at-a.result in
+    let d2 = c.digit_at-b.result in
+    let d3 = c.digit_at-c.result in
+    (10 ≤ d3 → number_at a.text.now a.at ≡ Value (d1 * 10 + d2) (a.at + 2))
+    × (d3 < 10 → number_at a.text.now a.at ≡ Value (d1 * 100 + d2 * 10 + d3) (a.at + 3)) =
+        λ = let a = k.args in let d1 = k.digit_at in let d2 = k.digit_at-b in let e1 = sym d1.ensures in let e2 = sym d2.ensures in let e3. sym c.digit_at-c.ensures in (
+      λ h. read_two a.text.now a.at d1.result d2.result _ (omega arith) (omega arith) (omega arith) h e1 e2 e3,
+      λ h. read_three a.text.now a.at d1.result d2.result _ (omega arith) (omega arith) (omega arith) h e1 e2 e3,
+    ) in
+    sym (digits-read.1 c.if-c-ge10.false)

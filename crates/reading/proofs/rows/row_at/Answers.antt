@@ -11,12 +11,6 @@ use Rattle.reading.specs.Parsing.{digit_at}
 use Rattle.reading.proofs.FoundRows.{row_in, row_ends, row_digit, once, row_fits, row_done}
 use Rattle.reading.proofs.rows.row_at.Goals as goal
 
--- the digit read stands before those read
-read_is : (k : goal.After-digit_at-d) →
-    let a = k.args in
-    k.digit_at.result ≡ digit_at a.text.now (a.at + (k.loop.i - 1))
-read_is k = k.digit_at.ensures ∙ ap (digit_at _) (omega arith)
-
 pub returns-then-len-at : goal.returns-then-len-at
 returns-then-len-at c = λ v rest e. let a = c.args in omega (arith, row_in a.text.now a.at a.n v rest e)
 
@@ -35,10 +29,13 @@ loop-i-init c =
 
 pub returns-then-d-gt1 : goal.returns-then-d-gt1
 returns-then-d-gt1 c =
+    let read_is : let a = c.args in
+    c.digit_at-d.result ≡ digit_at a.text.now (a.at + (c.loop-i.i - 1)) =
+        c.digit_at-d.ensures ∙ ap (digit_at _) (omega arith) in
     λ v rest e.
     let k = c in
     let a = k.args in
-    omega (arith, read_is k, row_digit a.text.now a.at a.n v rest e (k.loop-i.i - 1) (omega arith))
+    omega (arith, read_is, row_digit a.text.now a.at a.n v rest e (k.loop-i.i - 1) (omega arith))
 
 pub overflow_mul-v : goal.overflow_mul-v
 overflow_mul-v c =
@@ -54,10 +51,13 @@ overflow_add-v c =
 
 pub loop-i-preserved : goal.loop-i-preserved
 loop-i-preserved c =
+    let read_is : let a = c.args in
+    c.digit_at-d.result ≡ digit_at a.text.now (a.at + (c.loop-i.i - 1)) =
+        c.digit_at-d.ensures ∙ ap (digit_at _) (omega arith) in
     let a = c.args in
     let l = c.loop-i in
     let d = c.digit_at-d in
-    let read = read_is c in
+    let read = read_is in
     let o = once a.text.now a.at a.n l.i l.v d.result (omega arith) l.invariant.0 l.invariant.1 l.invariant.2 read (omega arith) in
     (omega arith, o.0, o.1)
 

@@ -29,7 +29,7 @@ pub lay_drives-requires : goal.lay_drives-requires
 lay_drives-requires c =
     let memory = c in
     let s = memory in
-    let k = s.pre in
+    let k = s.requires in
     rw s.stripe_of-s.ensures (read_area k, omega (arith, read_memory k), size_pos k)
 
 pub returns : goal.returns
@@ -37,7 +37,7 @@ returns c =
     let area = c in
     let memory = area in
     let s = memory in
-    let k = s.pre in (
-      area.lay_drives.ensures ∙ rw (memory.clear-part.ensures, s.stripe_of-s.ensures) (area_blanked k),
-      memory.clear-part.ensures ∙ rw s.stripe_of-s.ensures (memory_blanked k),
+    let k = s.requires in (
+      area.lay_drives.ensures ∙ rw (memory.clear_part.ensures, s.stripe_of-s.ensures) (area_blanked k),
+      memory.clear_part.ensures ∙ rw s.stripe_of-s.ensures (memory_blanked k),
     )

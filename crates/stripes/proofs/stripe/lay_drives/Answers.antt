@@ -9,41 +9,47 @@ use Rattle.moving.proofs.Laid.{laid_join, laid_none, length-laid}
 use Rattle.moving.specs.Laid.{laid}
 use Rattle.stripes.proofs.stripe.lay_drives.Goals as goal
 
--- dst is as long as it was, and has room for one block more
-same : (c : goal.At-loop-q) → length c.loop-q.dst ≡ length c.args.dst.now
-same c = ap length c.loop-q.invariant.2 ∙ length-laid _ _ _ _ _
-
-fit : (c : goal.In-loop-q) → c.loop-q.done + c.args.size ≤ c.args.drives * c.args.size
-fit c = omega (arith, share c.loop-q.q c.args.drives c.args.size c.loop-q-test.true)
-
-next : (c : goal.In-loop-q) → (c.args.first.0 + c.loop-q.q) * c.args.size ≡ c.args.first.0 * c.args.size + c.loop-q.done
-next c = omega (arith, add-mul c.args.first.0 c.loop-q.q c.args.size, c.loop-q.invariant.1)
-
 pub loop-q-init : goal.loop-q-init
 loop-q-init c =
     let x = c.args in
     (zero-le, sym (zero-mul x.size), laid_none x.dst.now x.src.now x.at (x.first.0 * x.size))
 
 pub overflow_add-block : goal.overflow_add-block
-overflow_add-block c = let once = c in omega (arith, fit once, next once, once.well-formed, mul-le-mul_left (once.args.first.0 + once.loop-q.q) once.requires.2)
+overflow_add-block c =
+    let fit : c.loop-q.done + c.args.size ≤ c.args.drives * c.args.size =
+        omega (arith, share c.loop-q.q c.args.drives c.args.size c.loop-q-test.true) in
+    let next : (c.args.first.0 + c.loop-q.q) * c.args.size ≡ c.args.first.0 * c.args.size + c.loop-q.done =
+        omega (arith, add-mul c.args.first.0 c.loop-q.q c.args.size, c.loop-q.invariant.1) in
+    let once = c in omega (arith, fit, next, once.well-formed, mul-le-mul_left (once.args.first.0 + once.loop-q.q) once.requires.2)
 
 pub lay_block-requires : goal.lay_block-requires
 lay_block-requires c =
+    let same : length c.loop-q.dst ≡ length c.args.dst.now =
+        ap length c.loop-q.invariant.2 ∙ length-laid _ _ _ _ _ in
+    let fit : c.loop-q.done + c.args.size ≤ c.args.drives * c.args.size =
+        omega (arith, share c.loop-q.q c.args.drives c.args.size c.loop-q-test.true) in
+    let next : (c.args.first.0 + c.loop-q.q) * c.args.size ≡ c.args.first.0 * c.args.size + c.loop-q.done =
+        omega (arith, add-mul c.args.first.0 c.loop-q.q c.args.size, c.loop-q.invariant.1) in
     let once = c in
-    (omega (arith, fit once, same once), omega (arith, fit once, next once))
+    (omega (arith, fit, same), omega (arith, fit, next))
 
 pub overflow_add-done : goal.overflow_add-done
-overflow_add-done c = let once = c in omega (arith, fit once, once.well-formed)
+overflow_add-done c =
+    let fit : c.loop-q.done + c.args.size ≤ c.args.drives * c.args.size =
+        omega (arith, share c.loop-q.q c.args.drives c.args.size c.loop-q-test.true) in
+    let once = c in omega (arith, fit, once.well-formed)
 
 pub loop-q-preserved : goal.loop-q-preserved
 loop-q-preserved c =
+    let next : (c.args.first.0 + c.loop-q.q) * c.args.size ≡ c.args.first.0 * c.args.size + c.loop-q.done =
+        omega (arith, add-mul c.args.first.0 c.loop-q.q c.args.size, c.loop-q.invariant.1) in
     let once = c in
     let l = once.loop-q in
     let x = once.args in (
       omega arith,
       ap (λ (n : ℕ). n + x.size) l.invariant.1 ∙ sym (suc-mul l.q x.size) ∙ ap (λ (n : ℕ). n * x.size) (omega arith),
       c.lay_block.ensures
-          ∙ ap (laid l.dst-1 (x.at + l.done) x.size x.src.now) (next once)
+          ∙ ap (laid l.dst-1 (x.at + l.done) x.size x.src.now) next
           ∙ laid_join x.dst.now x.src.now l.dst-1 x.at l.done x.size (x.first.0 * x.size) l.invariant.2,
     )
 
@@ -55,7 +61,11 @@ returns c =
     (c.loop-q.invariant.1 ∙ ap (λ (n : ℕ). n * x.size) (omega arith))
 
 pub overflow_add-p : goal.overflow_add-p
-overflow_add-p c = omega (arith, fit c, c.well-formed)
+overflow_add-p c = let fit : c.loop-q.done + c.args.size ≤ c.args.drives * c.args.size =
+        omega (arith, share c.loop-q.q c.args.drives c.args.size c.loop-q-test.true) in
+    omega (arith, fit, c.well-formed)
 
 pub shape_of-dst : goal.shape_of-dst
-shape_of-dst c = same c
+shape_of-dst c = let same : length c.loop-q.dst ≡ length c.args.dst.now =
+        ap length c.loop-q.invariant.2 ∙ length-laid _ _ _ _ _ in
+    same

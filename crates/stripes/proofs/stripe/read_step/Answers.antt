@@ -8,7 +8,7 @@ use Rattle.stripes.proofs.stripe.read_step.Goals as goal
 pub overflow_mul-at : goal.overflow_mul-at
 overflow_mul-at c =
     let s = c in
-    record { fits = rw c.stripe_of-s.ensures (omega (arith, read_memory s.pre, s.good)) }
+    record { fits = rw c.stripe_of-s.ensures (omega (arith, read_memory s.requires, s.good)) }
 
 pub lay_drives-requires : goal.lay_drives-requires
 lay_drives-requires c =

@@ -13,26 +13,29 @@ use borrow.Author.Rules.{rules}
 use Rattle.bank.proofs.Limits.{Allowed, limits, limits→allowed}
 use Rattle.tables.proofs.pace.pace_of.Goals as goal
 
-abbrev ok : (s : goal.Start) → Allowed s.args.plan.geometry
-ok s = limits→allowed s.args.plan.geometry s.requires
-
 pub overflow_mul-stripe : goal.overflow_mul-stripe
 overflow_mul-stripe c =
+    let ok : Allowed c.args.plan.geometry =
+        limits→allowed c.args.plan.geometry c.requires in
     let s = c in
-    record { fits = rw (c.power.ensures, c.power-2.ensures) (omega (arith, stripe_small s.args.plan.geometry (ok s))) }
+    record { fits = rw (c.power.ensures, c.power-2.ensures) (omega (arith, stripe_small s.args.plan.geometry ok)) }
 
 pub nonzero_div-each : goal.nonzero_div-each
 nonzero_div-each c =
+    let ok : Allowed c.args.plan.geometry =
+        limits→allowed c.args.plan.geometry c.requires in
     let s = c in
-    rw (c.power.ensures, c.power-2.ensures) (stripe_pos s.args.plan.geometry (ok s))
+    rw (c.power.ensures, c.power-2.ensures) (stripe_pos s.args.plan.geometry ok)
 
 pub overflow_mul-result : goal.overflow_mul-result
 unfolding tiers
 overflow_mul-result c =
+    let ok : Allowed c.args.plan.geometry =
+        limits→allowed c.args.plan.geometry c.requires in
     let s = c in
     let g = s.args.plan.geometry in
     let route = route_of s.args.plan in
-    let few : tiers g ≤ 2 ^ ROWS = omega (arith, tiers_small (ok s), records_small g (ok s)) in
+    let few : tiers g ≤ 2 ^ ROWS = omega (arith, tiers_small ok, records_small g ok) in
     record {
       fits = rw (c.power.ensures, c.power-2.ensures, c.power-3.ensures, c.phases-kinds.ensures)
           (omega (arith, phases_small (length (phases route)) (tiers g) (few_phases route) few));
@@ -40,18 +43,22 @@ overflow_mul-result c =
 
 pub overflow_mul-result-2 : goal.overflow_mul-result-2
 overflow_mul-result-2 c =
+    let ok : Allowed c.args.plan.geometry =
+        limits→allowed c.args.plan.geometry c.requires in
     let s = c in
     let g = s.args.plan.geometry in
     let route = route_of s.args.plan in
     record {
       fits = rw (c.power-4.ensures, c.phases-kinds.ensures)
-          (omega (arith, phases_small (length (phases route)) (records g) (few_phases route) (records_small g (ok s))));
+          (omega (arith, phases_small (length (phases route)) (records g) (few_phases route) (records_small g ok)));
     }
 
 pub nonzero_div-result : goal.nonzero_div-result
 nonzero_div-result c =
+    let ok : Allowed c.args.plan.geometry =
+        limits→allowed c.args.plan.geometry c.requires in
     let s = c in
-    rw (c.power.ensures, c.power-2.ensures) (stripe_pos s.args.plan.geometry (ok s))
+    rw (c.power.ensures, c.power-2.ensures) (stripe_pos s.args.plan.geometry ok)
 
 pub returns : goal.returns
 unfolding tiers load_steps pass_steps route_of

@@ -10,29 +10,33 @@ use borrow.Author.Rules.{rules}
 use Rattle.bank.proofs.Limits.{Allowed, limits, limits→allowed}
 use Rattle.tables.proofs.tables.first_place.Goals as goal
 
-abbrev ok : (s : goal.Start) → Allowed s.args.t.geometry
-ok s = limits→allowed s.args.t.geometry s.requires.0
-
 pub overflow_mul-start : goal.overflow_mul-start
-overflow_mul-start c = let s = c in record { fits = rw c.power.ensures (stripe_fits (ok s) s.args.tier s.requires.1) }
+overflow_mul-start c =
+    let ok : Allowed c.args.t.geometry =
+        limits→allowed c.args.t.geometry c.requires.0 in
+    let s = c in record { fits = rw c.power.ensures (stripe_fits ok s.args.tier s.requires.1) }
 
 pub overflow_mul-start-2 : goal.overflow_mul-start-2
 overflow_mul-start-2 c =
+    let ok : Allowed c.args.t.geometry =
+        limits→allowed c.args.t.geometry c.requires.0 in
     let s = c in
-    record { fits = rw (c.power.ensures, c.power-2.ensures) (start_fits (ok s) s.args.tier s.requires.1) }
+    record { fits = rw (c.power.ensures, c.power-2.ensures) (start_fits ok s.args.tier s.requires.1) }
 
 pub nonzero_rem-picks : goal.nonzero_rem-picks
 nonzero_rem-picks c = rw c.power-3.ensures (pow_pos c.args.t.geometry.m)
 
 pub overflow_cast-picks : goal.overflow_cast-picks
 overflow_cast-picks c =
+    let ok : Allowed c.args.t.geometry =
+        limits→allowed c.args.t.geometry c.requires.0 in
     let three = c in
     let s = three in
     let m = s.args.t.geometry.m in
-    let w = xor_lt m _ (s.args.goes.0 % 2 ^ m) (start_lt (ok s) s.args.tier s.requires.1) (mod-lt s.args.goes.0 (pow_pos m)) in
+    let w = xor_lt m _ (s.args.goes.0 % 2 ^ m) (start_lt ok s.args.tier s.requires.1) (mod-lt s.args.goes.0 (pow_pos m)) in
     record {
       fits = rw (three.power.ensures, three.power-2.ensures, three.power-3.ensures)
-          (omega (arith, w, memory_fit (ok s), records_fit (ok s)));
+          (omega (arith, w, memory_fit ok, records_fit ok));
     }
 
 pub returns : goal.returns

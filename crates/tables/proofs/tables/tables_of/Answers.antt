@@ -9,10 +9,6 @@ use Rattle.tables.specs.Tables.{tables_of}
 use borrow.Author.Rules.{rules}
 use Rattle.tables.proofs.tables.tables_of.Goals as goal
 
--- the pass is one of those that a plan can hold
-few : (s : goal.Start) → s.args.p < PASSES
-few s = omega (arith, s.requires.1, s.requires.0.few_passes, route_length s.args.plan)
-
 pub tables_for-requires : goal.tables_for-requires
 tables_for-requires c =
     let s = c in
@@ -23,10 +19,14 @@ unfolding tables_of
 returns c = c.tables_for.ensures ∙ rw (c.pace_of-pace.ensures, c.pass_rows-rows.ensures)
 
 pub pass_rows-rows-requires : goal.pass_rows-rows-requires
-pass_rows-rows-requires c = few c
+pass_rows-rows-requires c = let few : c.args.p < PASSES =
+        omega (arith, c.requires.1, c.requires.0.few_passes, route_length c.args.plan) in
+    few
 
 pub pace_of-pace-requires : goal.pace_of-pace-requires
 pace_of-pace-requires c = let s = c in plan_inside s.args.plan s.requires.0
 
 pub bounds-complements-at : goal.bounds-complements-at
-bounds-complements-at c = few c
+bounds-complements-at c = let few : c.args.p < PASSES =
+        omega (arith, c.requires.1, c.requires.0.few_passes, route_length c.args.plan) in
+    few
