@@ -45,7 +45,7 @@ use Rattle.demands.specs.Mover.{beginning}
 use Rattle.demands.specs.Ours.{ours}
 use Rattle.demands.specs.Chain.{Called, Chain, new_steps}
 use Rattle.demands.specs.Chain.Chain.{no_calls, step, run, stray_step, stray_run}
-use Rattle.demands.specs.Delivers.{Blanked, Carries, Delivered, Delivers, DeliversForeign, Performs, Reached, Runnable, area_named, rounds_for, steps_apass}
+use Rattle.demands.specs.Delivers.{Blanked, Carries, Delivered, Delivers, DeliversForeign, Performs, Reached, Runnable, area_named, rounds_for, steps_a_pass}
 use Rattle.demands.specs.PassCounts.{PassCounts}
 use Rattle.demands.specs.Still.{StillOrder}
 use Rattle.demands.proofs.OneStep.{one_step}
@@ -134,12 +134,12 @@ module _ (plan : Plan) (can : Runnable plan) where
 
   module _ (marked : plan.blanks ≡ true) (v : Buffers) (fitting : buffers_fit plan.geometry v ≡ true) (cs : List Called) (end : Moment)
       (chain : Chain ours plan (beginning ours v) cs end) where
-    each : pass_steps (route_of plan) ≡ steps_apass plan
+    each : pass_steps (route_of plan) ≡ steps_a_pass plan
     unfolding route_of
     each = pass-stripes (route_of plan) (sound_allowed plan can.runnable)
 
     -- after pass p, the area that it read and memory are zero
-    spent_pass : (p : ℕ) → p < plan.count → end.state.next.0 ≡ steps_apass plan * (p + 1)
+    spent_pass : (p : ℕ) → p < plan.count → end.state.next.0 ≡ steps_a_pass plan * (p + 1)
         → AllZero (area_named (p % 2) end.buffers) × AllZero end.buffers.memory
     spent_pass p h ends =
         rw (area_read_lem p end.buffers)

@@ -38,8 +38,8 @@ pub record Runnable (plan : Plan) : Type 0 where
   pub room : length plan.rows ≡ PASSES * ROWS
 
 -- 2N/(BD), the steps of a pass: a read and a write for each stripe; 3N/(BD) where the plan blanks: a blank for each stripe too
-abbrev pub steps_apass : Plan → ℕ
-steps_apass plan = cond plan.blanks 3 2 * stripes plan.geometry
+abbrev pub steps_a_pass : Plan → ℕ
+steps_a_pass plan = cond plan.blanks 3 2 * stripes plan.geometry
 
 -- where a chain of the mover's calls has come from the fresh state
 pub record Reached (M : Mover) (plan : Plan) (cs : List Called) (end : Moment) : Type 0 where
@@ -53,7 +53,7 @@ pub record Reached (M : Mover) (plan : Plan) (cs : List Called) (end : Moment) :
 
 pub record Carries (M : Mover) (plan : Plan) : Type 0 where
   -- the total: 2N/(BD) steps for each pass, or 3N/(BD)
-  pub steps : M.total plan ≡ steps_apass plan * plan.count
+  pub steps : M.total plan ≡ steps_a_pass plan * plan.count
   -- no step moves more than one block on a drive, and every other byte stays
   pub one_block : (k : ℕ) → k < M.total plan → OneStep M plan k
   -- any bytes of the right lengths, and any chain of calls
@@ -66,7 +66,7 @@ pub record Carries (M : Mover) (plan : Plan) : Type 0 where
 pub record Blanked (M : Mover) (plan : Plan) : Type 0 where
   -- after each whole pass the area just read, area p mod 2, is zero in every byte, and so is memory
   pub after-pass : (v : Buffers) → buffers_fit plan.geometry v ≡ true → (cs : List Called) (end : Moment) → Chain M plan (beginning M v) cs end
-      → (p : ℕ) → p < plan.count → end.state.next.0 ≡ steps_apass plan * (p + 1)
+      → (p : ℕ) → p < plan.count → end.state.next.0 ≡ steps_a_pass plan * (p + 1)
       → AllZero (area_named (p % 2) end.buffers) × AllZero end.buffers.memory
   -- so at the end of one or more passes is the area that the mover doesn't name, and memory
   pub at_end : (v : Buffers) → buffers_fit plan.geometry v ≡ true → (cs : List Called) (end : Moment) → Chain M plan (beginning M v) cs end
