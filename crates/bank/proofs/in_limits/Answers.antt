@@ -1,5 +1,4 @@
 -- `bank::in_limits` meets its contract: a return of false breaks one limit, the last return has passed them all. Assumes nothing.
-use borrow.Author.Rules.{rules}
 use mathlib.Core.Path.{sym}
 use native.Mathlib.Omega.{arith}
 use Rattle.bank.proofs.Limits.{allowed→limits, outside}
