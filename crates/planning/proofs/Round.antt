@@ -2,7 +2,7 @@
 use mathlib.Core.Path.{◌∙◌, ◌≡◌, ap, ap₂, refl, subst, sym}
 use mathlib.Core.Bool.{Bool, ◌&&◌, and-false, cond, false, not, true}
 use mathlib.Core.List.{List, [], ◌∷◌}
-use Prim.Native.Nat.{◌%◌, ◌*◌, ◌+◌, ◌-◌, ◌/◌, ◌<◌, ◌^◌, ◌≤◌, min, suc, zero, ℕ}
+use Prim.Native.Nat.{◌%◌, ◌*◌, ◌+◌, ◌-◌, ◌/◌, ◌<◌, ◌^◌, ◌≤◌, min, suc, ℕ}
 use native.Mathlib.Nat.{div-eq_of_lt, div-lt_iff_lt-mul, le_refl, lt_of_lt_of_le, mod-eq_of_lt, mul-mod_left, one-mul, sub-add_cancel, zero-div, zero-mul}
 use native.Mathlib.Omega.{arith}
 use lib.Pow.{field, pow-add, pow-lt, pow_mono, pow_pos}

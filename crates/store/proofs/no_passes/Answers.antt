@@ -1,7 +1,6 @@
 -- `store::no_passes` meets its contract: no pass, stored, is zero everywhere. Assumes nothing.
 use mathlib.Core.Path.{◌∙◌, ap, sym}
 use mathlib.Core.Bool.{Bool}
-use borrow.Author.Rules.{rules}
 use Rattle.bank.specs.declared.Geometry.{Geometry}
 use Rattle.planning.specs.declared.Plan.{Plan}
 use Rattle.store.proofs.Storing.{stored_none}

@@ -1,10 +1,10 @@
 -- `store::pass_rows` meets its contract: every place passed holds the row of pass p. Assumes nothing.
-use mathlib.Core.Path.{◌≡◌, refl}
-use Prim.Native.Nat.{ℕ, ◌+◌, ◌*◌, ◌-◌, ◌≤◌, ◌<◌}
+use mathlib.Core.Path.{refl}
+use Prim.Native.Nat.{◌*◌}
 use native.Mathlib.Omega.{arith}
 use borrow.Author.Rules.{rules}
-use lib.ListN.{length, get_or, length-set}
-use Rattle.bank.specs.Limits.{ROWS, PASSES}
+use lib.ListN.{length-set}
+use Rattle.bank.specs.Limits.{ROWS}
 use Rattle.algebra.proofs.Lists.{copied_more, copied_whole}
 use Rattle.store.proofs.pass_rows.Goals as goal
 

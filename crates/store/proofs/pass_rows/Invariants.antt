@@ -1,11 +1,8 @@
 -- `store::pass_rows` meets its contract: every place passed holds the row of pass p. Assumes nothing.
-use mathlib.Core.Path.{◌≡◌, refl}
+use mathlib.Core.Path.{◌≡◌}
 use Prim.Native.Nat.{ℕ, ◌+◌, ◌*◌, ◌-◌, ◌≤◌, ◌<◌}
-use native.Mathlib.Omega.{arith}
-use borrow.Author.Rules.{rules}
-use lib.ListN.{length, get_or, length-set}
+use lib.ListN.{length, get_or}
 use Rattle.bank.specs.Limits.{ROWS, PASSES}
-use Rattle.algebra.proofs.Lists.{copied_more, copied_whole}
 use Rattle.store.proofs.pass_rows.Given as goal
 
 abbrev pub invariant-loop-i : goal.invariant-loop-i

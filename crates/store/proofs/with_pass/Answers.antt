@@ -1,13 +1,12 @@
 -- `store::with_pass` meets its contract: the rows are pasted place by place. Assumes nothing.
 use mathlib.Core.Path.{◌≡◌, refl, ap, ◌∙◌}
-use mathlib.Core.List.{List}
-use Prim.Native.Nat.{ℕ, ◌+◌, ◌*◌, ◌-◌, ◌≤◌, ◌<◌}
+use Prim.Native.Nat.{◌+◌, ◌*◌}
 use native.Mathlib.Omega.{arith}
 use native.Mathlib.Numerals.{add-one}
 use borrow.Author.Rules.{rules}
-use lib.ListN.{length, get_or, set}
-use lib.Seq.{paste, paste-zero, paste-suc}
-use Rattle.bank.specs.Limits.{ROWS, PASSES}
+use lib.ListN.{get_or, set}
+use lib.Seq.{paste-zero, paste-suc}
+use Rattle.bank.specs.Limits.{ROWS}
 use Rattle.planning.specs.declared.Plan.{Plan}
 use Rattle.store.specs.Store.{with_pass}
 use Rattle.store.proofs.with_pass.Invariants.{with_rows}

@@ -1,15 +1,11 @@
 -- `store::with_pass` meets its contract: the rows are pasted place by place. Assumes nothing.
-use mathlib.Core.Path.{◌≡◌, refl, ap, ◌∙◌}
+use mathlib.Core.Path.{◌≡◌}
 use mathlib.Core.List.{List}
-use Prim.Native.Nat.{ℕ, ◌+◌, ◌*◌, ◌-◌, ◌≤◌, ◌<◌}
-use native.Mathlib.Omega.{arith}
-use native.Mathlib.Numerals.{add-one}
-use borrow.Author.Rules.{rules}
-use lib.ListN.{length, get_or, set}
-use lib.Seq.{paste, paste-zero, paste-suc}
+use Prim.Native.Nat.{ℕ, ◌*◌, ◌-◌, ◌≤◌, ◌<◌}
+use lib.ListN.{length}
+use lib.Seq.{paste}
 use Rattle.bank.specs.Limits.{ROWS, PASSES}
 use Rattle.planning.specs.declared.Plan.{Plan}
-use Rattle.store.specs.Store.{with_pass}
 use Rattle.store.proofs.with_pass.Given as goal
 
 -- the plan with other rows

@@ -1,7 +1,5 @@
 -- `totals::size_in_limits` meets its contract: the tests, one by one. Assumes nothing.
 use mathlib.Core.Path.{sym, ◌∙◌}
-use borrow.Author.Rules.{rules}
-use borrow.Author.Tests.{not-true, not-false}
 use Rattle.totals.proofs.Total.{size_asked}
 use Rattle.totals.proofs.size_in_limits.Goals as goal
 

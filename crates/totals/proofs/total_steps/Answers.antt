@@ -2,8 +2,6 @@
 use mathlib.Core.Path.{ap₂, sym, ◌∙◌}
 use Prim.Native.Nat.{◌*◌, ◌^◌, ◌≤◌}
 use native.Mathlib.Omega.{arith}
-use borrow.Author.Rules.{rules}
-use borrow.Author.Tests.{not-true, not-false}
 use Rattle.planning.specs.Stored.{route_of}
 use Rattle.totals.proofs.Total.{few_phases, phases_small, records_small, size_allowed, size_few}
 use Rattle.totals.proofs.Total.{stripe_small, stripe_some, total_from, total_small}

@@ -1,12 +1,10 @@
 -- `elimination::echelon::eliminate` meets its contract. The loop's invariant: e holds the entries after the first j columns. Assumes nothing.
 use mathlib.Core.Path.{◌≡◌}
-use Prim.Native.Nat.{◌-◌, ◌≤◌}
 use native.Mathlib.Omega.{arith}
 use borrow.Author.Rules.{rules}
 use Rattle.bank.specs.Limits.{ROWS}
 use Rattle.algebra.specs.Elimination.{built}
 use Rattle.algebra.proofs.Built.{built_count, built_next}
-use Rattle.elimination.specs.Echelon.{echelon_of}
 use Rattle.elimination.proofs.echelon.eliminate.Goals as goal
 
 pub loop-j-init : goal.loop-j-init

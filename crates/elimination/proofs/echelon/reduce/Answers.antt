@@ -1,8 +1,7 @@
 -- `elimination::echelon::reduce` meets its contract. The loop's invariant: u and s are what is left and what was used after i entries. Assumes nothing.
 use mathlib.Core.Path.{◌≡◌, refl, sym}
-use Prim.Native.Nat.{◌-◌, ◌≤◌}
 use native.Mathlib.Omega.{arith}
-use lib.Bits.{bit_xor, xor_zero_r}
+use lib.Bits.{xor_zero_r}
 use borrow.Author.Rules.{rules}
 use Rattle.algebra.specs.Elimination.{rest, used}
 use Rattle.algebra.proofs.Loops.{rest_once, used_once}

@@ -1,11 +1,8 @@
 -- `elimination::echelon::reduce` meets its contract. The loop's invariant: u and s are what is left and what was used after i entries. Assumes nothing.
-use mathlib.Core.Path.{◌≡◌, refl, sym}
+use mathlib.Core.Path.{◌≡◌}
 use Prim.Native.Nat.{◌-◌, ◌≤◌}
-use native.Mathlib.Omega.{arith}
-use lib.Bits.{bit_xor, xor_zero_r}
-use borrow.Author.Rules.{rules}
+use lib.Bits.{bit_xor}
 use Rattle.algebra.specs.Elimination.{rest, used}
-use Rattle.algebra.proofs.Loops.{rest_once, used_once}
 use Rattle.elimination.proofs.echelon.reduce.Given as goal
 
 abbrev pub invariant-loop-i : goal.invariant-loop-i

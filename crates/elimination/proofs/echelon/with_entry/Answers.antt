@@ -2,7 +2,6 @@
 use mathlib.Core.Path.{ap}
 use Prim.Native.Nat.{ℕ, ◌+◌}
 use lib.ListN.{set}
-use borrow.Author.Rules.{rules}
 use Rattle.algebra.specs.Elimination.{Echelon}
 use Rattle.elimination.proofs.echelon.with_entry.Goals as goal
 

@@ -1,7 +1,6 @@
 -- `elimination::questions::inverse_columns` meets its contract. The loop's invariant: the first j columns are in place; column j is the source of 2^j.
 -- Assumes nothing.
-use mathlib.Core.Path.{◌∙◌, ◌≡◌, ap, refl}
-use Prim.Native.Nat.{◌-◌, ◌≤◌}
+use mathlib.Core.Path.{◌∙◌, ap, refl}
 use native.Mathlib.Omega.{arith}
 use lib.ListN.{take}
 use borrow.Author.Rules.{rules}
@@ -12,7 +11,7 @@ use Rattle.algebra.specs.Matrix.{columns, inverse}
 use Rattle.algebra.proofs.Built.{built_count}
 use Rattle.algebra.proofs.Columns.{columns-length}
 use Rattle.algebra.proofs.Questions.{columns_whole, inverse-built}
-use Rattle.matrix.proofs.Filled.{filled, filled_all, filled_next}
+use Rattle.matrix.proofs.Filled.{filled_all, filled_next}
 use Rattle.elimination.proofs.questions.inverse_columns.Goals as goal
 
 pub reduce-r-requires : goal.reduce-r-requires

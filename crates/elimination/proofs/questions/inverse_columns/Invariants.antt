@@ -1,18 +1,11 @@
 -- `elimination::questions::inverse_columns` meets its contract. The loop's invariant: the first j columns are in place; column j is the source of 2^j.
 -- Assumes nothing.
-use mathlib.Core.Path.{◌∙◌, ◌≡◌, ap, refl}
+use mathlib.Core.Path.{◌≡◌}
 use Prim.Native.Nat.{◌-◌, ◌≤◌}
-use native.Mathlib.Omega.{arith}
 use lib.ListN.{take}
-use borrow.Author.Rules.{rules}
-use Rattle.algebra.proofs.Basis.{used_of}
 use Rattle.bank.specs.Limits.{ROWS}
-use Rattle.elimination.specs.Echelon.{echelon_of}
 use Rattle.algebra.specs.Matrix.{columns, inverse}
-use Rattle.algebra.proofs.Built.{built_count}
-use Rattle.algebra.proofs.Columns.{columns-length}
-use Rattle.algebra.proofs.Questions.{columns_whole, inverse-built}
-use Rattle.matrix.proofs.Filled.{filled, filled_all, filled_next}
+use Rattle.matrix.proofs.Filled.{filled}
 use Rattle.elimination.proofs.questions.inverse_columns.Given as goal
 
 abbrev pub invariant-loop-j : goal.invariant-loop-j

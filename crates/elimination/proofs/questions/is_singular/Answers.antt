@@ -3,7 +3,6 @@ use mathlib.Core.Path.{◌∙◌, ap}
 use mathlib.Core.Bool.{not}
 use Prim.Native.Nat.{ℕ}
 use lib.Dec.{eqb}
-use borrow.Author.Rules.{rules}
 use lib.ListN.{take}
 use Rattle.algebra.proofs.Singular.{kernel_tells}
 use Rattle.elimination.proofs.questions.is_singular.Goals as goal

@@ -2,7 +2,6 @@
 use mathlib.Core.Path.{◌∙◌, ap, refl, sym}
 use Prim.Native.Nat.{ℕ}
 use native.Mathlib.Omega.{arith}
-use borrow.Author.Rules.{rules}
 use Rattle.bank.specs.Limits.{ROWS}
 use lib.ListN.{take}
 use Rattle.elimination.specs.Solved.{solved_for}

@@ -1,13 +1,12 @@
 -- `elimination::questions::spills` meets its contract. The loop's invariant: e holds the entries after the first j columns of the middle rows, and below 2^j
 -- the lower rows send to zero all that the middle rows do. Assumes nothing.
-use mathlib.Core.Path.{◌∙◌, ◌≡◌, subst, sym}
-use mathlib.Core.Logic.{⊎_elim, inl, inr}
-use Prim.Native.Nat.{◌-◌, ◌≤◌, ℕ}
+use mathlib.Core.Path.{◌∙◌, ◌≡◌, subst}
+use mathlib.Core.Logic.{inl, inr}
+use Prim.Native.Nat.{◌-◌, ℕ}
 use native.Mathlib.Omega.{arith}
 use lib.ListN.{drop, take}
 use borrow.Author.Rules.{rules}
 use Rattle.bank.specs.Limits.{ROWS}
-use Rattle.elimination.specs.Echelon.{echelon_of}
 use Rattle.algebra.specs.Elimination.{built}
 use Rattle.algebra.proofs.Built.{built_count, built_next}
 use Rattle.algebra.proofs.Questions.{spills_no, spills_yes, through_next}

@@ -2,7 +2,7 @@
 -- Assumes nothing.
 use mathlib.Core.Path.{◌∙◌, ◌≡◌, ap, ap₂, sym}
 use mathlib.Core.Bool.{true≢false}
-use Prim.Native.Nat.{◌-◌, ◌≤◌, ℕ}
+use Prim.Native.Nat.{ℕ}
 use native.Mathlib.Omega.{arith}
 use lib.Bits.{bit_xor}
 use lib.ListN.{get_or, take}
@@ -12,7 +12,7 @@ use Rattle.algebra.specs.Elimination.{built}
 use Rattle.algebra.proofs.Basis.{used_of}
 use Rattle.algebra.proofs.Built.{built_count, built_next}
 use Rattle.algebra.proofs.Loops.{grown_entry}
-use Rattle.algebra.proofs.Questions.{AllMarked, all-marked, columns_whole, kernel_tag, marked_next, none_marked, singular_tag}
+use Rattle.algebra.proofs.Questions.{all-marked, columns_whole, kernel_tag, marked_next, none_marked, singular_tag}
 use Rattle.elimination.specs.Echelon.{echelon_of}
 use Rattle.elimination.proofs.questions.sweep.Goals as goal
 

@@ -1,12 +1,9 @@
 -- `matrix::carry::flip` meets its contract: what is summed up, and what the columns ahead still change, is the whole change. Assumes nothing.
-use mathlib.Core.Path.{◌≡◌, refl, sym, ◌∙◌}
+use mathlib.Core.Path.{◌≡◌}
 use Prim.Native.Nat.{◌-◌}
-use native.Mathlib.Omega.{arith}
-use borrow.Author.Rules.{rules}
 use lib.Bits.{bit_xor}
 use lib.ListN.{length, drop}
 use Rattle.algebra.specs.Carry.{flips}
-use Rattle.algebra.proofs.Carry.{walk_stop, walk_on, walk_end}
 use Rattle.matrix.proofs.carry.flip.Given as goal
 
 abbrev pub invariant-loop-j : goal.invariant-loop-j

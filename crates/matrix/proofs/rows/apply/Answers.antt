@@ -3,7 +3,6 @@ use mathlib.Core.Path.{◌∙◌, ap}
 use Prim.Native.Nat.{ℕ}
 use native.Mathlib.Nat.{sub-zero}
 use lib.ListN.{take}
-use borrow.Author.Rules.{rules}
 use Rattle.algebra.specs.Matrix.{applied}
 use Rattle.matrix.proofs.rows.apply.Goals as goal
 

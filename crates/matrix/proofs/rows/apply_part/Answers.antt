@@ -1,6 +1,6 @@
 -- `matrix::rows::apply_part` meets its contract. The loop's invariant: r is the rows from place i of the part on, applied. Assumes nothing.
 use mathlib.Core.Path.{◌∙◌, ◌≡◌, ap, sym}
-use Prim.Native.Nat.{◌-◌, ◌≤◌, ℕ, ◌<◌}
+use Prim.Native.Nat.{◌-◌, ℕ, ◌<◌}
 use native.Mathlib.Omega.{arith}
 use lib.ListN.{drop, take}
 use borrow.Author.Rules.{rules}

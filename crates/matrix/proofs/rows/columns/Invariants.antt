@@ -1,13 +1,10 @@
 -- `matrix::rows::columns` meets its contract. The loop's invariant: the first j columns are in place. Assumes nothing.
-use mathlib.Core.Path.{◌∙◌, ◌≡◌, ap, refl, sym}
+use mathlib.Core.Path.{◌≡◌}
 use Prim.Native.Nat.{◌-◌, ◌≤◌}
-use native.Mathlib.Omega.{arith}
 use lib.ListN.{drop, take}
-use borrow.Author.Rules.{rules}
 use Rattle.bank.specs.Limits.{ROWS}
-use Rattle.matrix.proofs.Filled.{filled, filled_all, filled_next}
-use Rattle.algebra.specs.Matrix.{applied, columns}
-use Rattle.algebra.proofs.Columns.{columns_at, columns-length}
+use Rattle.matrix.proofs.Filled.{filled}
+use Rattle.algebra.specs.Matrix.{columns}
 use Rattle.matrix.proofs.rows.columns.Given as goal
 
 abbrev pub invariant-loop-j : goal.invariant-loop-j

@@ -1,10 +1,9 @@
 -- `matrix::rows::identity` meets its contract. The loop's invariant: the first i rows are in place. Assumes nothing.
-use mathlib.Core.Path.{◌∙◌, ◌≡◌, refl, sym}
-use Prim.Native.Nat.{◌-◌, ◌≤◌}
+use mathlib.Core.Path.{◌∙◌, refl, sym}
 use native.Mathlib.Omega.{arith}
 use borrow.Author.Rules.{rules}
 use Rattle.bank.specs.Limits.{ROWS}
-use Rattle.matrix.proofs.Filled.{filled, filled_all, filled_next}
+use Rattle.matrix.proofs.Filled.{filled_all, filled_next}
 use Rattle.algebra.specs.Matrix.{identity}
 use Rattle.algebra.proofs.Columns.{identity_at, identity-length}
 use Rattle.matrix.proofs.rows.identity.Goals as goal

@@ -1,9 +1,8 @@
 -- `matrix::rows::is_identity` meets its contract: a search that passed only rows of the identity. Assumes nothing.
 use mathlib.Core.Path.{◌≡◌, ◌∙◌, sym}
-use Prim.Native.Nat.{ℕ, ◌<◌, ◌≤◌, ◌-◌, ◌^◌}
+use Prim.Native.Nat.{◌^◌}
 use native.Mathlib.Omega.{arith}
 use borrow.Author.Count.{below_more}
-use borrow.Author.Rules.{rules}
 use lib.ListN.{get_or, take}
 use lib.Seq.{get_or-take}
 use Rattle.algebra.proofs.Columns.{each_row, other_row}

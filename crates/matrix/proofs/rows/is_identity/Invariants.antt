@@ -1,12 +1,7 @@
 -- `matrix::rows::is_identity` meets its contract: a search that passed only rows of the identity. Assumes nothing.
-use mathlib.Core.Path.{◌≡◌, ◌∙◌, sym}
+use mathlib.Core.Path.{◌≡◌}
 use Prim.Native.Nat.{ℕ, ◌<◌, ◌≤◌, ◌-◌, ◌^◌}
-use native.Mathlib.Omega.{arith}
-use borrow.Author.Count.{below_more}
-use borrow.Author.Rules.{rules}
-use lib.ListN.{get_or, take}
-use lib.Seq.{get_or-take}
-use Rattle.algebra.proofs.Columns.{each_row, other_row}
+use lib.ListN.{get_or}
 use Rattle.matrix.proofs.rows.is_identity.Given as goal
 
 abbrev pub invariant-loop-i : goal.invariant-loop-i

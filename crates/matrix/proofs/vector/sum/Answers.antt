@@ -1,8 +1,7 @@
 -- `matrix::vector::sum` meets its contract. The loop's invariant: the total, and what `left` picks of the vectors from j on, is the sum. Assumes nothing.
-use mathlib.Core.Path.{◌∙◌, ◌≡◌, sym}
-use Prim.Native.Nat.{◌-◌, ◌≤◌}
-use lib.Bits.{bit_xor, xor_zero_l}
-use lib.ListN.{drop, take}
+use mathlib.Core.Path.{◌∙◌, sym}
+use lib.Bits.{xor_zero_l}
+use lib.ListN.{take}
 use borrow.Author.Rules.{rules}
 use Rattle.algebra.specs.Vector.{comb}
 use Rattle.algebra.proofs.Loops.{comb_end, comb_once}

@@ -1,11 +1,9 @@
 -- `matrix::vector::sum` meets its contract. The loop's invariant: the total, and what `left` picks of the vectors from j on, is the sum. Assumes nothing.
-use mathlib.Core.Path.{◌∙◌, ◌≡◌, sym}
+use mathlib.Core.Path.{◌≡◌}
 use Prim.Native.Nat.{◌-◌, ◌≤◌}
-use lib.Bits.{bit_xor, xor_zero_l}
+use lib.Bits.{bit_xor}
 use lib.ListN.{drop, take}
-use borrow.Author.Rules.{rules}
 use Rattle.algebra.specs.Vector.{comb}
-use Rattle.algebra.proofs.Loops.{comb_end, comb_once}
 use Rattle.matrix.proofs.vector.sum.Given as goal
 
 abbrev pub invariant-loop-j : goal.invariant-loop-j

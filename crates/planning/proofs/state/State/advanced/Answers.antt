@@ -1,6 +1,5 @@
 -- `planning::state::State::advanced` meets its contract: the sum is tested before it is taken. Assumes nothing.
 use native.Mathlib.Omega.{arith}
-use borrow.Author.Rules.{rules}
 use borrow.Author.Tests.{le-ltb, lt-ltb}
 use Prim.Native.Nat.{◌+◌, ◌^◌}
 use Rattle.planning.specs.State.{advanced_by}
