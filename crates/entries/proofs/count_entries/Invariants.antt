@@ -1,14 +1,9 @@
 -- `entries::count_entries` meets its contract: the lines passed are those of as many entries as are counted. Assumes nothing.
 use mathlib.Core.Path.{◌≡◌}
-use mathlib.Core.List.{List, [], ◌∷◌, ◌++◌}
-use Prim.Native.Nat.{ℕ, ◌+◌, ◌-◌, ◌<◌, ◌≤◌}
-use native.Mathlib.Omega.{arith}
-use borrow.Author.Rules.{rules}
-use lib.ListN.{length, length-append}
-use Rattle.entries.specs.Parsing.{EntryAt}
-use Rattle.entries.specs.declared.Entry.TheVariants.{Value}
-use Rattle.entries.proofs.Found.{entry_past}
-use Rattle.entries.proofs.Passed.{Passed, passed_none, passed_more, passed_all, passed_bad}
+use mathlib.Core.List.{List}
+use Prim.Native.Nat.{ℕ, ◌+◌, ◌-◌, ◌≤◌}
+use lib.ListN.{length}
+use Rattle.entries.proofs.Passed.{Passed}
 use Rattle.entries.proofs.count_entries.Given as goal
 
 -- each entry took a byte of the text or more, so that their count doesn't wrap

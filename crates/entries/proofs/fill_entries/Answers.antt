@@ -1,56 +1,48 @@
 -- `entries::fill_entries` meets its contract: the room holds the entries of the lines passed, and has room for those that are left. Assumes nothing.
-use mathlib.Core.List.{List}
-use Prim.Native.Nat.{ℕ, ◌-◌, ◌<◌}
 use native.Mathlib.Omega.{arith}
-use borrow.Author.Rules.{rules}
-use lib.ListN.{length}
-use Rattle.entries.specs.Parsing.{EntryAt}
-use Rattle.entries.specs.declared.Entry.TheVariants.{Value}
 use Rattle.entries.proofs.Found.{entry_past}
 use Rattle.entries.proofs.Passed.{passed_bad}
-use Rattle.entries.proofs.Filled.{Filled, filled_none, filled_length, filled_fewer, filled_more, filled_all}
+use Rattle.entries.proofs.Filled.{filled_none, filled_length, filled_fewer, filled_more, filled_all}
 use Rattle.entries.proofs.fill_entries.Goals as goal
 
--- ---- the needs
 pub loop-at-init : goal.loop-at-init
 loop-at-init c = let a = c.args in filled_none a.text.now a.room.now
-
-pub shape_of-room-in_default : goal.shape_of-room-in_default
-shape_of-room-in_default c =
-    let a = c.args in
-    let l = c.loop-at in
-    filled_length a.text.now a.room.now l.room l.at l.i l.invariant
 
 pub returns-in_default : goal.returns-in_default
 returns-in_default c =
     λ list t.
-    let l = c.loop-at in
-    absurd (passed_bad _ _ _ l.invariant.passed list t (omega arith) (rw c.enum_told-1.given.1 at c.entry_at.ensures))
+    absurd (passed_bad _ _ _ c.loop-at.invariant.passed list t (omega arith) c.in_default.ensures)
 
 pub offset_bounds-room-i : goal.offset_bounds-room-i
-offset_bounds-room-i c = omega (arith, inside c)
+offset_bounds-room-i c =
+    let a = c.args in
+    let l = c.loop-at in
+    let inside = filled_fewer a.text.now a.room.now l.room l.at l.i l.invariant c.requires (omega arith) in
+    omega arith
 
 pub bounds-room-i : goal.bounds-room-i
 bounds-room-i c =
+    let a = c.args in
     let l = c.loop-at in
-    omega (arith, inside c, filled_length (text c) (before c) l.room l.at l.i l.invariant)
+    let inside = filled_fewer a.text.now a.room.now l.room l.at l.i l.invariant c.requires (omega arith) in
+    omega (arith, inside, filled_length _ _ l.room l.at l.i l.invariant)
 
 pub overflow_add-i : goal.overflow_add-i
-overflow_add-i c = omega (arith, inside c)
+overflow_add-i c =
+    let a = c.args in
+    let l = c.loop-at in
+    let inside = filled_fewer a.text.now a.room.now l.room l.at l.i l.invariant c.requires (omega arith) in
+    omega arith
+
+pub loop-at-smaller : goal.loop-at-smaller
+loop-at-smaller c = entry_past _ _ _ _ c.in-Value.ensures
 
 pub loop-at-preserved : goal.loop-at-preserved
 loop-at-preserved c =
-    let l = c.loop-at in
-    filled_more (text c) (before c) l.room l.at l.i l.invariant (value c) (past c) (inside c) (read c)
-
-pub shape_of-room : goal.shape_of-room
-shape_of-room c =
     let a = c.args in
     let l = c.loop-at in
-    filled_length a.text.now a.room.now l.room l.at l.i l.invariant
+    let inside = filled_fewer a.text.now a.room.now l.room l.at l.i l.invariant c.requires (omega arith) in
+    filled_more a.text.now a.room.now l.room l.at l.i l.invariant c.in-Value.v c.in-Value.k inside c.in-Value.ensures
 
 pub returns : goal.returns
-returns c =
-    let a = c.args in
-    let l = c.loop-at in
-    filled_all a.text.now a.room.now l.room l.at l.i l.invariant (omega arith)
+returns c = let l = c.loop-at in filled_all _ _ l.room l.at l.i l.invariant (omega arith)

@@ -1,9 +1,6 @@
 -- `entries::line_end` meets its contract: no byte passed is LF. Assumes nothing.
 use mathlib.Core.Path.{◌≡◌}
 use Prim.Native.Nat.{ℕ, ◌-◌, ◌<◌, ◌≤◌}
-use native.Mathlib.Omega.{arith}
-use borrow.Author.Count.{below_more}
-use borrow.Author.Rules.{rules}
 use lib.ListN.{get_or, length}
 use Rattle.entries.proofs.line_end.Given as goal
 

@@ -14,5 +14,5 @@ returns c =
     let wrote = c.write_listing.ensures in
     let fits = listing_fits a.plan (search rules) in
     let whole = has_room a.plan a.room.now (omega arith) in
-    let few : c.write_listing.result ≤ length c.write_listing.new.1.0 = omega (arith, wrote.0, whole.0) in
+    let few : c.write_listing.result ≤ length c.write_listing.new.room = omega (arith, wrote.0, whole.0) in
     (wrote.0 ∙ whole.0, few, sym (length-take-le _ _ few), wrote.1 ∙ whole.1)

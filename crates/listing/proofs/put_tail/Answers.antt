@@ -1,14 +1,12 @@
 -- `listing::put_tail` meets its contract: after p iterations the first p passes stand there. Assumes nothing.
-use mathlib.Core.Path.{◌≡◌, refl}
-use Prim.Native.Nat.{◌+◌, ◌-◌, ◌≤◌}
+use mathlib.Core.Path.{refl}
+use Prim.Native.Nat.{◌+◌}
 use native.Mathlib.Omega.{arith}
-use borrow.Author.Rules.{rules}
 use lib.ListN.{length}
 use Rattle.planning.proofs.Running.{sound_allowed, sound_few}
 use Rattle.listing.specs.Passes.{pass_at_lines}
-use Rattle.writing.specs.Written.{Wrote}
 use Rattle.writing.proofs.Put.{wrote_none, wrote_more, wrote_length, wrote_fits}
-use Rattle.listing.proofs.Passes.{up_to, up_to_none, up_to_more, up_to_longer, up_to_short, up_to_all}
+use Rattle.listing.proofs.Passes.{up_to_none, up_to_more, up_to_longer, up_to_short, up_to_all}
 use Rattle.listing.proofs.put_tail.Goals as goal
 
 pub loop-p-init : goal.loop-p-init
@@ -40,9 +38,6 @@ loop-p-preserved c =
     let both = wrote_more l.invariant.2 c.put_pass-i.ensures (omega (arith, start.requires.1)) in
     let done = rw (← up_to_more a.plan l.p (omega arith)) at both in
     (omega arith, wrote_length done (omega (arith, start.requires.1)), done)
-
-pub shape_of-room : goal.shape_of-room
-shape_of-room c = c.loop-p.invariant.1
 
 pub returns : goal.returns
 returns c =

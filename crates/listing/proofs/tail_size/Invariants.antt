@@ -1,11 +1,8 @@
 -- `listing::tail_size` meets its contract: after k iterations the size is that of k passes. Assumes nothing.
-use mathlib.Core.Path.{◌≡◌, ap, ◌∙◌}
-use Prim.Native.Nat.{◌+◌, ◌-◌, ◌≤◌}
-use native.Mathlib.Omega.{arith}
-use borrow.Author.Rules.{rules}
+use mathlib.Core.Path.{◌≡◌}
+use Prim.Native.Nat.{◌-◌, ◌≤◌}
 use lib.ListN.{length}
-use Rattle.planning.proofs.Running.{sound_allowed, sound_few}
-use Rattle.listing.proofs.Passes.{up_to, up_to_none, up_to_longer, up_to_short, up_to_all, tail_small}
+use Rattle.listing.proofs.Passes.{up_to}
 use Rattle.listing.proofs.tail_size.Given as goal
 
 abbrev pub invariant-loop-k : goal.invariant-loop-k

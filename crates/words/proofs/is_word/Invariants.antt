@@ -1,13 +1,7 @@
 -- `words::is_word` meets its contract: the words are as long as each other, and agree below i. Assumes nothing.
-use mathlib.Core.Path.{◌≡◌, ap, refl}
-use mathlib.Core.Logic.{⊎_elim}
-use mathlib.Core.Bool.{false≢true}
-use mathlib.Core.List.{List}
+use mathlib.Core.Path.{◌≡◌}
 use Prim.Native.Nat.{ℕ, ◌<◌, ◌-◌}
-use native.Mathlib.Nat.{eq-or-lt_of_le}
-use native.Mathlib.Omega.{arith}
 use lib.ListN.{get_or, length}
-use lib.Seq.{ext_get_or}
 use Rattle.words.proofs.is_word.Given as goal
 
 abbrev pub invariant-loop-i : goal.invariant-loop-i

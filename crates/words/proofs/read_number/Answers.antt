@@ -1,12 +1,11 @@
 -- `words::read_number` meets its contract: the bytes read so far are the decimal of the value. Assumes nothing.
-use mathlib.Core.Logic.{⊎_elim}
-use Prim.Native.Nat.{◌^◌, ◌<◌, ◌-◌}
+use Prim.Native.Nat.{◌^◌, ◌<◌}
 use native.Mathlib.Omega.{arith}
 use borrow.Author.Rules.{rules}
-use lib.ListN.{length}
 use Rattle.words.specs.Says.{DIGITS}
-use Rattle.words.proofs.Numbers.{ReadTo, none_byte, none_empty, none_long, none_zero, read_all, read_more, read_none, read_small}
+use Rattle.words.proofs.Numbers.{none_byte, none_empty, none_long, none_zero, read_all, read_more, read_none, read_small}
 use Rattle.words.proofs.read_number.Goals as goal
+use Rattle.words.proofs.read_number.Goals.{then-size-gt1+else-word-eq48, else-size-gt1}
 
 pub returns-then-size-eq0 : goal.returns-then-size-eq0
 returns-then-size-eq0 c = none_empty c.args.word.now (omega arith)
@@ -20,7 +19,7 @@ returns-then-word-eq48 c = none_zero c.args.word.now (omega arith) (search rules
 pub loop-i-init : goal.loop-i-init
 loop-i-init c =
     read_none c.args.word.now
-    (λ h z. ⊎_elim (λ w. w.2.left z) (λ w. omega arith) c.if-size-gt1.branch)
+    (λ h z. elim c.if-size-gt1.branch [ then-size-gt1+else-word-eq48 w ↦ w.if-word-eq48.false z | else-size-gt1 w ↦ omega arith ])
 
 pub returns-then-d-gt9 : goal.returns-then-d-gt9
 returns-then-d-gt9 c =
@@ -30,17 +29,17 @@ returns-then-d-gt9 c =
 
 pub overflow_mul-value : goal.overflow_mul-value
 overflow_mul-value c =
-    let value-small : c.loop-i.value < 10 ^ DIGITS =
-        λ = let l. c.loop-i in
-    read_small c.args.word.now l.i l.value l.invariant (omega arith) in
-    omega (arith, value-small)
+    let l = c.loop-i in
+    let value_small : l.value < 10 ^ DIGITS =
+        read_small c.args.word.now l.i l.value l.invariant (omega arith) in
+    omega arith
 
 pub overflow_add-value : goal.overflow_add-value
 overflow_add-value c =
-    let value-small : c.loop-i.value < 10 ^ DIGITS =
-        λ = let l. c.loop-i in
-    read_small c.args.word.now l.i l.value l.invariant (omega arith) in
-    omega (arith, value-small)
+    let l = c.loop-i in
+    let value_small : l.value < 10 ^ DIGITS =
+        read_small c.args.word.now l.i l.value l.invariant (omega arith) in
+    omega arith
 
 pub loop-i-preserved : goal.loop-i-preserved
 loop-i-preserved c =

@@ -1,11 +1,7 @@
 -- `words::read_number` meets its contract: the bytes read so far are the decimal of the value. Assumes nothing.
-use mathlib.Core.Logic.{⊎_elim}
-use Prim.Native.Nat.{◌^◌, ◌<◌, ◌-◌}
-use native.Mathlib.Omega.{arith}
-use borrow.Author.Rules.{rules}
+use Prim.Native.Nat.{◌-◌}
 use lib.ListN.{length}
-use Rattle.words.specs.Says.{DIGITS}
-use Rattle.words.proofs.Numbers.{ReadTo, none_byte, none_empty, none_long, none_zero, read_all, read_more, read_none, read_small}
+use Rattle.words.proofs.Numbers.{ReadTo}
 use Rattle.words.proofs.read_number.Given as goal
 
 abbrev pub invariant-loop-i : goal.invariant-loop-i

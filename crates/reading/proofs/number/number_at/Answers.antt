@@ -1,12 +1,10 @@
 -- `reading::number::number_at` meets its contract: each return has passed the tests before it, on the digits read. Assumes nothing.
 use native.Mathlib.Omega.{arith}
-use mathlib.Core.Path.{◌≡◌, sym}
-use Prim.Native.Nat.{◌+◌, ◌*◌, ◌<◌, ◌≤◌}
+use mathlib.Core.Path.{sym}
+use Prim.Native.Nat.{◌+◌}
 use borrow.Author.Tests.{le-leb, lt-leb, eq-eqb}
 use Rattle.reading.specs.Parsing.{number_at}
-use Rattle.reading.specs.declared.number.Parsed.TheVariants.{Value}
 use Rattle.reading.proofs.Numbers.{digit_in, read_one, read_two, read_three}
-use borrow.Author.Rules.{rules}
 use Rattle.reading.proofs.number.number_at.Goals as goal
 
 pub returns-then-a-ge10 : goal.returns-then-a-ge10
@@ -36,17 +34,11 @@ overflow_add-j c =
 
 pub returns-then-c-ge10 : goal.returns-then-c-ge10
 returns-then-c-ge10 c =
-    let digits-read : let a = c.args in
-    let d1 = c.digit_at-a.result in
-    let d2 = c.digit_at-b.result in
-    let d3 = c.digit_at-c.result in
-    (10 ≤ d3 → number_at a.text.now a.at ≡ Value (d1 * 10 + d2) (a.at + 2))
-    × (d3 < 10 → number_at a.text.now a.at ≡ Value (d1 * 100 + d2 * 10 + d3) (a.at + 3)) =
-        λ = let a = k.args in let d1 = k.digit_at in let d2 = k.digit_at-b in let e1 = sym d1.ensures in let e2 = sym d2.ensures in let e3. sym c.digit_at-c.ensures in (
-      λ h. read_two a.text.now a.at d1.result d2.result _ (omega arith) (omega arith) (omega arith) h e1 e2 e3,
-      λ h. read_three a.text.now a.at d1.result d2.result _ (omega arith) (omega arith) (omega arith) h e1 e2 e3,
-    ) in
-    sym (digits-read.0 c.if-c-ge10.true)
+    let a = c.args in
+    let d1 = c.digit_at-a in
+    let d2 = c.digit_at-b in
+    let d3 = c.digit_at-c in
+    sym (read_two a.text.now a.at d1.result d2.result d3.result (omega arith) (omega arith) (omega arith) (omega arith) (sym d1.ensures) (sym d2.ensures) (sym d3.ensures))
 
 pub overflow_add-result-4 : goal.overflow_add-result-4
 overflow_add-result-4 c =
@@ -55,14 +47,8 @@ overflow_add-result-4 c =
 
 pub returns : goal.returns
 returns c =
-    let digits-read : let a = c.args in
-    let d1 = c.digit_at-a.result in
-    let d2 = c.digit_at-b.result in
-    let d3 = c.digit_at-c.result in
-    (10 ≤ d3 → number_at a.text.now a.at ≡ Value (d1 * 10 + d2) (a.at + 2))
-    × (d3 < 10 → number_at a.text.now a.at ≡ Value (d1 * 100 + d2 * 10 + d3) (a.at + 3)) =
-        λ = let a = k.args in let d1 = k.digit_at in let d2 = k.digit_at-b in let e1 = sym d1.ensures in let e2 = sym d2.ensures in let e3. sym c.digit_at-c.ensures in (
-      λ h. read_two a.text.now a.at d1.result d2.result _ (omega arith) (omega arith) (omega arith) h e1 e2 e3,
-      λ h. read_three a.text.now a.at d1.result d2.result _ (omega arith) (omega arith) (omega arith) h e1 e2 e3,
-    ) in
-    sym (digits-read.1 c.if-c-ge10.false)
+    let a = c.args in
+    let d1 = c.digit_at-a in
+    let d2 = c.digit_at-b in
+    let d3 = c.digit_at-c in
+    sym (read_three a.text.now a.at d1.result d2.result d3.result (omega arith) (omega arith) (omega arith) (omega arith) (sym d1.ensures) (sym d2.ensures) (sym d3.ensures))

@@ -1,14 +1,10 @@
 -- `reading::rows::row_at` meets its contract: the characters from place i on are the bits read so far; a row has a digit below 2 at each place, and LF after.
 -- Assumes nothing.
-use mathlib.Core.Path.{◌≡◌, ap, ◌∙◌}
+use mathlib.Core.Path.{◌≡◌}
 use mathlib.Core.List.{◌++◌}
 use Prim.Native.Nat.{◌+◌, ◌-◌, ◌^◌, ◌<◌, ◌≤◌}
-use native.Mathlib.Omega.{arith}
-use borrow.Author.Rules.{rules}
 use lib.ListN.{drop}
 use Rattle.text.specs.Lines.{bits}
-use Rattle.reading.specs.Parsing.{digit_at}
-use Rattle.reading.proofs.FoundRows.{row_in, row_ends, row_digit, once, row_fits, row_done}
 use Rattle.reading.proofs.rows.row_at.Given as goal
 
 abbrev pub invariant-loop-i : goal.invariant-loop-i

@@ -1,11 +1,7 @@
 -- `reading::rows::rows_at` meets its contract: the lines passed are those of the rows so far, and where one is missing no rows stand there.
 -- Assumes nothing.
-use mathlib.Core.Path.{◌≡◌, subst}
 use Prim.Native.Nat.{◌-◌, ◌≤◌}
-use native.Mathlib.Omega.{arith}
-use borrow.Author.Rules.{rules}
-use Rattle.reading.specs.Found.{RowAt, RowsFound}
-use Rattle.reading.proofs.FoundRows.{no_rows_yet, rows_more, rows_broken}
+use Rattle.reading.specs.Found.{RowsFound}
 use Rattle.reading.proofs.rows.rows_at.Given as goal
 
 abbrev pub invariant-loop-i : goal.invariant-loop-i
