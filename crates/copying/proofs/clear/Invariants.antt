@@ -1,11 +1,7 @@
 -- `copying::clear` meets its contract. The invariant: dst is as long as it was, and zero below i. Assumes nothing.
-use mathlib.Core.Path.{◌≡◌, refl, sym, ◌∙◌}
-use mathlib.Core.List.{[]}
+use mathlib.Core.Path.{◌≡◌}
 use Prim.Native.Nat.{ℕ, ◌<◌, ◌-◌}
-use native.Mathlib.Omega.{arith}
-use lib.ListN.{length, get_or, length-replicate, length-set}
-use lib.Seq.{ext_get_or}
-use Rattle.algebra.proofs.Lists.{copied_more, get_or_zeros}
+use lib.ListN.{length, get_or}
 use Rattle.copying.proofs.clear.Given as goal
 
 abbrev pub invariant-loop-i : goal.invariant-loop-i

@@ -7,7 +7,6 @@ use Rattle.algebra.proofs.Lists.{get_or_zeros}
 use Rattle.moving.proofs.Laid.{within_ap}
 use Rattle.moving.specs.Laid.{cleared}
 use Rattle.copying.proofs.Parts.{back_each, length_part, part}
-use borrow.Author.Rules.{rules}
 use Rattle.copying.proofs.clear_part.Goals as goal
 
 pub returns : goal.returns
@@ -15,7 +14,7 @@ unfolding cleared
 returns c =
     let x = c.args in
     let n = length (part x.at (x.at + x.n) x.dst.now) in
-    let ys = c.clear.new.0 in
+    let ys = c.clear.new.dst in
     let e : ys ≡ replicate n 0 = c.clear.ensures in
     back_each x.at (x.at + x.n - x.at) x.dst.now ys (omega arith)
     (ap length e ∙ length-replicate {A = ℕ} n 0 ∙ length_part x.at (x.at + x.n) x.dst.now (omega arith)) _

@@ -1,11 +1,7 @@
 -- `copying::copy_into` meets its contract. The invariant: dst is as long as it was, and agrees with src below i. Assumes nothing.
 use mathlib.Core.Path.{◌≡◌}
 use Prim.Native.Nat.{ℕ, ◌<◌, ◌-◌}
-use native.Mathlib.Nat.{zero-add}
-use native.Mathlib.Omega.{arith}
-use lib.ListN.{length, get_or, length-set}
-use lib.Seq.{ext_get_or}
-use Rattle.algebra.proofs.Lists.{copied_more}
+use lib.ListN.{length, get_or}
 use Rattle.copying.proofs.copy_into.Given as goal
 
 abbrev pub invariant-loop-i : goal.invariant-loop-i

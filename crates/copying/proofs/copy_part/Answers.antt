@@ -1,5 +1,4 @@
 -- `copying::copy_part` meets its contract. Assumes nothing.
-use borrow.Author.Rules.{rules}
 use mathlib.Core.Path.{◌≡◌, ap}
 use Prim.Native.Nat.{ℕ, ◌+◌, ◌-◌}
 use native.Mathlib.Omega.{arith}
@@ -14,7 +13,7 @@ unfolding laid
 returns c =
     let x = c.args in
     let n = length x.src.now in
-    let ys = c.copy_into.new.0 in
+    let ys = c.copy_into.new.dst in
     let e : ys ≡ x.src.now = c.copy_into.ensures in
     back_each x.at (x.at + n - x.at) x.dst.now ys (omega arith) (omega (arith, ap length e)) _
     (λ i l. within_ap x.at _ n i _ _ _ (omega arith) (λ h m. rw e (ap (λ (k : ℕ). get_or x.src.now k 0) (omega arith))))

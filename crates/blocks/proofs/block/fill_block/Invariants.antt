@@ -1,15 +1,8 @@
 -- `blocks::block::fill_block` meets its contract: k records are filled, and the place is that of record k. Assumes nothing.
-use mathlib.Core.Path.{◌≡◌, ap, sym, subst, ◌∙◌}
-use Prim.Native.Nat.{ℕ, ◌+◌, ◌-◌, ◌*◌, ◌^◌, ◌≤◌, ◌<◌, zero-le}
-use native.Mathlib.Omega.{arith}
-use native.Mathlib.Nat.{zero-mul, suc-mul}
-use lib.Bits.{xor_lt}
-use lib.ListN.{length, length-take, length-drop}
+use mathlib.Core.Path.{◌≡◌}
+use Prim.Native.Nat.{◌-◌, ◌*◌, ◌^◌, ◌≤◌, ◌<◌}
 use Rattle.algebra.specs.Vector.{WORD}
-use Rattle.blocks.proofs.Filled.{filled, filled_all, filled_none, filled_once}
-use Rattle.algebra.proofs.Digits.{share}
-use Rattle.moving.proofs.Bytes.{length-copied}
-use Rattle.algebra.proofs.Carry.{place_next, place_zero}
+use Rattle.blocks.proofs.Filled.{filled}
 use Rattle.algebra.specs.Carry.{place_by}
 use Rattle.blocks.proofs.block.fill_block.Given as goal
 

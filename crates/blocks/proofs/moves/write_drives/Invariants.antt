@@ -1,13 +1,8 @@
 -- `blocks::moves::write_drives` meets its contract: the drives below q have their block, and block and place are drive q's. Assumes nothing.
-use mathlib.Core.Path.{◌≡◌, ap, ◌∙◌}
-use Prim.Native.Nat.{ℕ, ◌-◌, ◌%◌, ◌^◌, ◌≤◌, ◌<◌, zero-le}
-use native.Mathlib.Omega.{arith}
-use lib.Bits.{xor_lt}
-use lib.ListN.{length}
+use mathlib.Core.Path.{◌≡◌}
+use Prim.Native.Nat.{◌-◌, ◌^◌, ◌≤◌, ◌<◌}
 use Rattle.algebra.specs.Vector.{WORD}
-use Rattle.moving.proofs.Bytes.{length-copied}
-use Rattle.blocks.proofs.Drives.{drives_done, drives-all, drives_none, drives_once}
-use Rattle.algebra.proofs.Carry.{place_next, place_zero}
+use Rattle.blocks.proofs.Drives.{drives_done}
 use Rattle.algebra.specs.Carry.{place_by}
 use Rattle.blocks.proofs.moves.write_drives.Given as goal
 

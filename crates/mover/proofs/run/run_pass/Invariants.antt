@@ -1,12 +1,9 @@
 -- `mover::run::run_pass` meets its contract: i steps are done. Assumes nothing.
-use mathlib.Core.Path.{◌≡◌, ap, refl, ◌∙◌}
-use Prim.Native.Nat.{ℕ, ◌-◌, ◌≤◌, zero-le}
-use native.Mathlib.Omega.{arith}
+use mathlib.Core.Path.{◌≡◌}
+use Prim.Native.Nat.{◌-◌, ◌≤◌}
 use lib.ListN.{length}
 use Rattle.blocks.specs.Moving.{move_by}
-use Rattle.moving.proofs.Fits.{as_long_fit}
-use Rattle.moving.proofs.Moves.{moves_more, moves_none}
-use Rattle.moving.specs.Step.{Buffers, buffers_of, moves_from}
+use Rattle.moving.specs.Step.{buffers_of, moves_from}
 use Rattle.mover.proofs.run.run_pass.Given as goal
 
 abbrev pub invariant-loop-i : goal.invariant-loop-i

@@ -1,7 +1,6 @@
 -- `mover::step::lengths_fit` meets its contract: each length against its product. Assumes nothing.
 use mathlib.Core.Path.{◌≡◌}
 use Prim.Native.Nat.{◌*◌, ◌^◌}
-use borrow.Author.Tests.{eq-eqb, ne_eqb}
 use Rattle.tables.proofs.Sizes.{area_fits, memory_fits}
 use borrow.Author.Rules.{rules}
 use Rattle.bank.proofs.Limits.{limits, limits→allowed}
@@ -11,33 +10,11 @@ pub overflow_mul-area : goal.overflow_mul-area
 overflow_mul-area c =
     let product : c.power.result * c.wide-r.result ≡ 2 ^ c.args.g.n * c.args.g.r =
         rw (c.power.ensures, c.wide-r.ensures) in
-    let s = c in record { fits = rw product (area_fits (limits→allowed s.args.g s.requires)) }
-
-pub returns-then-area0-area : goal.returns-then-area0-area
-returns-then-area0-area c =
-    let product : c.power.result * c.wide-r.result ≡ 2 ^ c.args.g.n * c.args.g.r =
-        rw (c.power.ensures, c.wide-r.ensures) in
-    rw (← product) (search tests)
-
-pub returns-then-area1-area : goal.returns-then-area1-area
-returns-then-area1-area c =
-    let product : c.power.result * c.wide-r.result ≡ 2 ^ c.args.g.n * c.args.g.r =
-        rw (c.power.ensures, c.wide-r.ensures) in
-    rw (← product) (search tests)
+    record { fits = rw product (area_fits (limits→allowed c.args.g c.requires)) }
 
 pub overflow_mul-result : goal.overflow_mul-result
 overflow_mul-result c =
-    let w = c in
-    record { fits = rw (c.power-2.ensures, w.wide-r.ensures) (memory_fits (limits→allowed w.args.g w.requires)) }
-
-pub returns : goal.returns
-returns c =
-    let product : c.power.result * c.wide-r.result ≡ 2 ^ c.args.g.n * c.args.g.r =
-        rw (c.power.ensures, c.wide-r.ensures) in
-    rw (← product, ← c.power-2.ensures, ← c.wide-r.ensures) (search tests)
-
-pub wide-r-requires : goal.wide-r-requires
-wide-r-requires c = search (rules, limits)
+    record { fits = rw (c.power-2.ensures, c.wide-r.ensures) (memory_fits (limits→allowed c.args.g c.requires)) }
 
 pub power-requires : goal.power-requires
 power-requires c = search (rules, limits)

@@ -5,13 +5,17 @@ use borrow.Author.Rules.{rules}
 use Rattle.mover.proofs.step.turn_number.Goals as goal
 
 pub returns-then-all-s : goal.returns-then-all-s
-returns-then-all-s c = search tests
+unfolding turn_number
+returns-then-all-s c = search (rules, le-leb, lt-leb, eq-eqb, ne_eqb)
 
 pub returns-then-s-n : goal.returns-then-s-n
-returns-then-s-n c = search tests
+unfolding turn_number
+returns-then-s-n c = search (rules, le-leb, lt-leb, eq-eqb, ne_eqb)
 
 pub returns-then-s-n-2 : goal.returns-then-s-n-2
-returns-then-s-n-2 c = search tests
+unfolding turn_number
+returns-then-s-n-2 c = search (rules, le-leb, lt-leb, eq-eqb, ne_eqb)
 
 pub returns : goal.returns
-returns c = search tests
+unfolding turn_number
+returns c = search (rules, le-leb, lt-leb, eq-eqb, ne_eqb)

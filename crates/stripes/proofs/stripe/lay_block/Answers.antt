@@ -3,7 +3,6 @@ use mathlib.Core.Path.{◌∙◌}
 use Prim.Native.Nat.{◌*◌}
 use native.Mathlib.Omega.{arith}
 use Rattle.copying.proofs.Parts.{laid-lent}
-use borrow.Author.Rules.{rules}
 use Rattle.stripes.proofs.stripe.lay_block.Goals as goal
 
 pub returns : goal.returns

@@ -1,11 +1,6 @@
 -- `stripes::stripe::lay_drives` meets its contract: q blocks are laid one after the other. Assumes nothing.
-use mathlib.Core.Path.{◌≡◌, ap, sym, ◌∙◌}
-use Prim.Native.Nat.{ℕ, ◌+◌, ◌-◌, ◌*◌, ◌≤◌, zero-le}
-use native.Mathlib.Omega.{arith}
-use native.Mathlib.Nat.{add-mul, mul-le-mul_left, suc-mul, zero-mul}
-use lib.ListN.{length}
-use Rattle.algebra.proofs.Digits.{share}
-use Rattle.moving.proofs.Laid.{laid_join, laid_none, length-laid}
+use mathlib.Core.Path.{◌≡◌}
+use Prim.Native.Nat.{◌-◌, ◌*◌, ◌≤◌}
 use Rattle.moving.specs.Laid.{laid}
 use Rattle.stripes.proofs.stripe.lay_drives.Given as goal
 

@@ -2,21 +2,17 @@
 use mathlib.Core.Path.{◌∙◌}
 use native.Mathlib.Omega.{arith}
 use Rattle.stripes.proofs.Stripes.{read_area, read_is, read_memory, size_pos}
-use borrow.Author.Rules.{rules}
 use Rattle.stripes.proofs.stripe.read_step.Goals as goal
 
 pub overflow_mul-at : goal.overflow_mul-at
 overflow_mul-at c =
-    let s = c in
-    record { fits = rw c.stripe_of-s.ensures (omega (arith, read_memory s.requires, s.good)) }
+    record { fits = rw c.stripe_of-s.ensures (omega (arith, read_memory c.requires, c.well_formed)) }
 
 pub lay_drives-requires : goal.lay_drives-requires
 lay_drives-requires c =
-    let s = c in
-    let k = s.requires in
-    rw s.stripe_of-s.ensures (read_memory k, read_area k, size_pos k)
+    let k = c.requires in
+    rw c.stripe_of-s.ensures (read_memory k, read_area k, size_pos k)
 
 pub returns : goal.returns
 returns c =
-    let s = c in
-    c.lay_drives.ensures ∙ rw s.stripe_of-s.ensures (read_is s.requires)
+    c.lay_drives.ensures ∙ rw c.stripe_of-s.ensures (read_is c.requires)

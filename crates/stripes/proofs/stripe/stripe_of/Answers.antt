@@ -12,36 +12,31 @@ pub overflow_mul-size : goal.overflow_mul-size
 overflow_mul-size c =
     let ok : Allowed c.args.g =
         limits→allowed c.args.g c.requires.0 in
-    record { fits = rw c.power-drives.ensures (size_fits ok) }
+    record { fits = rw c.power.ensures (size_fits ok) }
 
 pub overflow_mul-place : goal.overflow_mul-place
 overflow_mul-place c =
     let ok : Allowed c.args.g =
         limits→allowed c.args.g c.requires.0 in
-    let s = c in
-    record { fits = rw c.power-drives.ensures (stripe_fits ok s.args.tier s.requires.2) }
+    record { fits = rw c.power-drives.ensures (stripe_fits ok c.args.tier c.requires.2) }
 
 pub overflow_mul-result : goal.overflow_mul-result
 overflow_mul-result c =
     let ok : Allowed c.args.g =
         limits→allowed c.args.g c.requires.0 in
-    let first : let x = c.args in x.load * 2 ^ (x.g.m - x.g.b) + x.tier * drives x.g < 2 ^ 64 =
-        first_fits ok c.args.load c.args.tier c.requires.1 c.requires.2 in
+    let x = c.args in
+    let first : x.load * 2 ^ (x.g.m - x.g.b) + x.tier * drives x.g < 2 ^ 64 =
+        first_fits ok x.load x.tier c.requires.1 c.requires.2 in
     record { fits = rw c.power-blocks.ensures (omega (arith, first)) }
 
 pub overflow_add-result : goal.overflow_add-result
 overflow_add-result c =
     let ok : Allowed c.args.g =
         limits→allowed c.args.g c.requires.0 in
-    let first : let x = c.args in x.load * 2 ^ (x.g.m - x.g.b) + x.tier * drives x.g < 2 ^ 64 =
-        first_fits ok c.args.load c.args.tier c.requires.1 c.requires.2 in
-    let one = c in
-    record { fits = rw (c.power-blocks.ensures, one.power-drives.ensures) first }
-
-pub returns : goal.returns
-returns c =
-    let two = c in
-    rw (two.power-drives.ensures, two.power.ensures, c.power-blocks.ensures)
+    let x = c.args in
+    let first : x.load * 2 ^ (x.g.m - x.g.b) + x.tier * drives x.g < 2 ^ 64 =
+        first_fits ok x.load x.tier c.requires.1 c.requires.2 in
+    record { fits = rw (c.power-blocks.ensures, c.power-drives.ensures) first }
 
 pub power-drives-requires : goal.power-drives-requires
 power-drives-requires c = search (rules, limits)

@@ -4,7 +4,6 @@ use native.Mathlib.Omega.{arith}
 use lib.ListN.{length}
 use Rattle.bank.specs.Geometry.{records, tiers}
 use Rattle.bank.specs.Limits.{ROWS}
-use Rattle.moving.proofs.Numbers.{stripe_pos}
 use Rattle.totals.proofs.Total.{few_phases, phases_small, records_small, stripe_small}
 use Rattle.planning.specs.Pass.{load_steps, pass_steps, phases}
 use Rattle.planning.specs.Stored.{route_of}
@@ -17,24 +16,15 @@ pub overflow_mul-stripe : goal.overflow_mul-stripe
 overflow_mul-stripe c =
     let ok : Allowed c.args.plan.geometry =
         limits→allowed c.args.plan.geometry c.requires in
-    let s = c in
-    record { fits = rw (c.power.ensures, c.power-2.ensures) (omega (arith, stripe_small s.args.plan.geometry ok)) }
-
-pub nonzero_div-each : goal.nonzero_div-each
-nonzero_div-each c =
-    let ok : Allowed c.args.plan.geometry =
-        limits→allowed c.args.plan.geometry c.requires in
-    let s = c in
-    rw (c.power.ensures, c.power-2.ensures) (stripe_pos s.args.plan.geometry ok)
+    record { fits = rw (c.power.ensures, c.power-2.ensures) (omega (arith, stripe_small c.args.plan.geometry ok)) }
 
 pub overflow_mul-result : goal.overflow_mul-result
 unfolding tiers
 overflow_mul-result c =
     let ok : Allowed c.args.plan.geometry =
         limits→allowed c.args.plan.geometry c.requires in
-    let s = c in
-    let g = s.args.plan.geometry in
-    let route = route_of s.args.plan in
+    let g = c.args.plan.geometry in
+    let route = route_of c.args.plan in
     let few : tiers g ≤ 2 ^ ROWS = omega (arith, tiers_small ok, records_small g ok) in
     record {
       fits = rw (c.power.ensures, c.power-2.ensures, c.power-3.ensures, c.phases-kinds.ensures)
@@ -45,20 +35,12 @@ pub overflow_mul-result-2 : goal.overflow_mul-result-2
 overflow_mul-result-2 c =
     let ok : Allowed c.args.plan.geometry =
         limits→allowed c.args.plan.geometry c.requires in
-    let s = c in
-    let g = s.args.plan.geometry in
-    let route = route_of s.args.plan in
+    let g = c.args.plan.geometry in
+    let route = route_of c.args.plan in
     record {
       fits = rw (c.power-4.ensures, c.phases-kinds.ensures)
           (omega (arith, phases_small (length (phases route)) (records g) (few_phases route) (records_small g ok)));
     }
-
-pub nonzero_div-result : goal.nonzero_div-result
-nonzero_div-result c =
-    let ok : Allowed c.args.plan.geometry =
-        limits→allowed c.args.plan.geometry c.requires in
-    let s = c in
-    rw (c.power.ensures, c.power-2.ensures) (stripe_pos s.args.plan.geometry ok)
 
 pub returns : goal.returns
 unfolding tiers load_steps pass_steps route_of
@@ -70,9 +52,6 @@ returns c =
       c.power-4.ensures,
       c.phases-kinds.ensures,
     )
-
-pub phases-kinds-requires : goal.phases-kinds-requires
-phases-kinds-requires c = search (rules, limits)
 
 pub power-requires : goal.power-requires
 power-requires c = search (rules, limits)

@@ -1,15 +1,11 @@
 -- `tables::tables::block_columns` meets its contract: the first j places are filled. Assumes nothing.
-use mathlib.Core.Path.{◌≡◌, refl, sym, ap, ◌∙◌}
+use mathlib.Core.Path.{◌≡◌}
 use mathlib.Core.List.{map}
-use Prim.Native.Nat.{ℕ, ◌-◌, ◌/◌, ◌^◌, ◌≤◌}
-use native.Mathlib.Omega.{arith}
-use borrow.Author.Rules.{rules}
-use lib.ListN.{length, length-map, take}
-use lib.Seq.{get_or-take, length-take-le}
-use Rattle.algebra.proofs.Columns.{map_at}
+use Prim.Native.Nat.{◌-◌, ◌/◌, ◌^◌, ◌≤◌}
+use lib.ListN.{take}
 use Rattle.algebra.specs.Matrix.{applied}
 use Rattle.bank.specs.Limits.{ROWS}
-use Rattle.matrix.proofs.Filled.{filled, filled_all, filled_next}
+use Rattle.matrix.proofs.Filled.{filled}
 use Rattle.tables.proofs.tables.block_columns.Given as goal
 
 abbrev pub invariant-loop-j : goal.invariant-loop-j

@@ -1,11 +1,10 @@
 -- `tables::tables::first_place` meets its contract: the sum of the columns that are picked. Assumes nothing.
-use mathlib.Core.Path.{◌∙◌}
 use Prim.Native.Nat.{◌%◌, ◌^◌}
 use native.Mathlib.Nat.{mod-lt}
 use native.Mathlib.Omega.{arith}
 use lib.Bits.{xor_lt}
 use lib.Pow.{pow_pos}
-use Rattle.tables.proofs.Sizes.{memory_fit, records_fit, start_fits, start_is, start_lt, stripe_fits}
+use Rattle.tables.proofs.Sizes.{memory_fit, records_fit, start_fits, start_lt, stripe_fits}
 use borrow.Author.Rules.{rules}
 use Rattle.bank.proofs.Limits.{Allowed, limits, limits→allowed}
 use Rattle.tables.proofs.tables.first_place.Goals as goal
@@ -14,37 +13,24 @@ pub overflow_mul-start : goal.overflow_mul-start
 overflow_mul-start c =
     let ok : Allowed c.args.t.geometry =
         limits→allowed c.args.t.geometry c.requires.0 in
-    let s = c in record { fits = rw c.power.ensures (stripe_fits ok s.args.tier s.requires.1) }
+    record { fits = rw c.power.ensures (stripe_fits ok c.args.tier c.requires.1) }
 
 pub overflow_mul-start-2 : goal.overflow_mul-start-2
 overflow_mul-start-2 c =
     let ok : Allowed c.args.t.geometry =
         limits→allowed c.args.t.geometry c.requires.0 in
-    let s = c in
-    record { fits = rw (c.power.ensures, c.power-2.ensures) (start_fits ok s.args.tier s.requires.1) }
-
-pub nonzero_rem-picks : goal.nonzero_rem-picks
-nonzero_rem-picks c = rw c.power-3.ensures (pow_pos c.args.t.geometry.m)
+    record { fits = rw (c.power.ensures, c.power-2.ensures) (start_fits ok c.args.tier c.requires.1) }
 
 pub overflow_cast-picks : goal.overflow_cast-picks
 overflow_cast-picks c =
     let ok : Allowed c.args.t.geometry =
         limits→allowed c.args.t.geometry c.requires.0 in
-    let three = c in
-    let s = three in
-    let m = s.args.t.geometry.m in
-    let w = xor_lt m _ (s.args.goes.0 % 2 ^ m) (start_lt ok s.args.tier s.requires.1) (mod-lt s.args.goes.0 (pow_pos m)) in
+    let m = c.args.t.geometry.m in
+    let w = xor_lt m _ (c.args.goes.0 % 2 ^ m) (start_lt ok c.args.tier c.requires.1) (mod-lt c.args.goes.0 (pow_pos m)) in
     record {
-      fits = rw (three.power.ensures, three.power-2.ensures, three.power-3.ensures)
+      fits = rw (c.power.ensures, c.power-2.ensures, c.power-3.ensures)
           (omega (arith, w, memory_fit ok, records_fit ok));
     }
-
-pub returns : goal.returns
-returns c =
-    let three = c in
-    let x = three.args in
-    c.sum.ensures
-    ∙ rw (three.power.ensures, three.power-2.ensures, three.power-3.ensures, start_is x.t.geometry x.tier)
 
 pub power-requires : goal.power-requires
 power-requires c = search (rules, limits)

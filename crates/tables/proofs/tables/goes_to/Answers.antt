@@ -2,22 +2,15 @@
 use mathlib.Core.Path.{ap}
 use Prim.Native.Nat.{ℕ}
 use native.Mathlib.Omega.{arith}
-use lib.Bits.{bit_xor, xor_lt}
+use lib.Bits.{bit_xor}
 use Rattle.algebra.specs.Matrix.{target}
-use Rattle.algebra.specs.Vector.{WORD}
 use Rattle.tables.proofs.Sizes.{records_fit}
 use borrow.Author.Rules.{rules}
 use Rattle.bank.proofs.Limits.{limits, limits→allowed}
 use Rattle.tables.proofs.tables.goes_to.Goals as goal
 
 pub overflow_cast-x : goal.overflow_cast-x
-overflow_cast-x c = let s = c in omega (arith, s.requires.1, records_fit (limits→allowed s.args.t.geometry s.requires.0))
-
-pub overflow_cast-result : goal.overflow_cast-result
-overflow_cast-result c =
-    let a = c.apply in
-    let t = c.args.t in
-    omega (arith, xor_lt WORD a.result t.complement (omega (arith, a.type-inv)) (omega (arith, c.struct_known-3-1.given)))
+overflow_cast-x c = omega (arith, c.requires.1, records_fit (limits→allowed c.args.t.geometry c.requires.0))
 
 pub returns : goal.returns
 unfolding target

@@ -9,8 +9,7 @@ inverse_columns-columns-requires c = (search (rules, limits), low_singular c.req
 
 pub returns : goal.returns
 returns c =
-    let s = c in
-    tables_made s.requires c.inverse_columns-columns.ensures c.block_columns-blocks.ensures
+    tables_made c.requires c.inverse_columns-columns.ensures c.block_columns-blocks.ensures
 
 pub block_columns-blocks-requires : goal.block_columns-blocks-requires
 block_columns-blocks-requires c = search (rules, limits)

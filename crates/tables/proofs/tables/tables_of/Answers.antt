@@ -1,32 +1,21 @@
 -- `tables::tables::tables_of` meets its contract: the pass is one that can run. Assumes nothing.
 use mathlib.Core.Path.{◌∙◌}
-use Prim.Native.Nat.{◌<◌}
 use native.Mathlib.Omega.{arith}
-use Rattle.bank.specs.Limits.{PASSES}
 use Rattle.planning.proofs.Stored.{route_length}
 use Rattle.tables.proofs.Plans.{plan_inside, plan_ready}
 use Rattle.tables.specs.Tables.{tables_of}
-use borrow.Author.Rules.{rules}
 use Rattle.tables.proofs.tables.tables_of.Goals as goal
 
 pub tables_for-requires : goal.tables_for-requires
 tables_for-requires c =
-    let s = c in
-    rw c.pass_rows-rows.ensures (plan_ready s.args.plan s.requires.0 s.args.p s.requires.1)
+    rw c.pass_rows-rows.ensures (plan_ready c.args.plan c.requires.0 c.args.p c.requires.1)
 
 pub returns : goal.returns
 unfolding tables_of
 returns c = c.tables_for.ensures ∙ rw (c.pace_of-pace.ensures, c.pass_rows-rows.ensures)
 
 pub pass_rows-rows-requires : goal.pass_rows-rows-requires
-pass_rows-rows-requires c = let few : c.args.p < PASSES =
-        omega (arith, c.requires.1, c.requires.0.few_passes, route_length c.args.plan) in
-    few
+pass_rows-rows-requires c = omega (arith, c.requires.1, c.requires.0.few_passes, route_length c.args.plan)
 
 pub pace_of-pace-requires : goal.pace_of-pace-requires
-pace_of-pace-requires c = let s = c in plan_inside s.args.plan s.requires.0
-
-pub bounds-complements-at : goal.bounds-complements-at
-bounds-complements-at c = let few : c.args.p < PASSES =
-        omega (arith, c.requires.1, c.requires.0.few_passes, route_length c.args.plan) in
-    few
+pace_of-pace-requires c = plan_inside c.args.plan c.requires.0
