@@ -3,42 +3,41 @@
 
 use addresses::{Source, source_of};
 use bank::Address;
-use libc::{STDIN_FILENO, STDOUT_FILENO};
 use listing::{ROOM, list_plan};
 use plan::make::make_plan;
 use reading::{read_order, text_room};
+use std::io;
+use streams::fill;
 use writing::refusal::{REFUSAL, write_refusal};
 
-fn refuse(number: u8, z: Address) {
+fn refuse(rt: &impl Print, number: u8, z: Address) -> io::Result<()> {
     let mut line = [0u8; REFUSAL];
     let k = write_refusal(number, z, &mut line);
-    io::write_all(STDOUT_FILENO, &line[..k]);
+    rt.write_all(&line[..k])
 }
 
 // An answer backwards that is a refusal.
-fn refuse_source(answer: Source) {
+fn refuse_source(rt: &impl Print, answer: Source) -> io::Result<()> {
     let Source::Refused(number, z) = answer else {
-        return;
+        return Ok(());
     };
-    refuse(number, z);
+    refuse(rt, number, z)
 }
 
-fn main() {
+fn main(rt: HostRuntime) -> io::Result<()> {
     let mut buffer = text_room();
-    let n = io::read_full(STDIN_FILENO, &mut buffer);
+    let n = fill(&mut rt.reader(), &mut buffer);
     let read = read_order(&buffer[..n]);
     if read.number != 0 {
-        refuse(read.number, read.z);
-        return;
+        return refuse(&rt, read.number, read.z);
     }
     // An order that is taken answers backwards: this one comes from somewhere.
     let answer = source_of(read.order, Address(0));
     let Source::From(_) = answer else {
-        refuse_source(answer);
-        return;
+        return refuse_source(&rt, answer);
     };
     let planned = make_plan(read.order, false);
     let mut room = [0u8; ROOM];
     let k = list_plan(planned.plan, &mut room);
-    io::write_all(STDOUT_FILENO, &room[..k]);
+    rt.write_all(&room[..k])
 }

@@ -4,8 +4,9 @@
 use bank::Address;
 use entries::answer::{FOUND, write_found};
 use entries::read_entries;
-use libc::{STDERR_FILENO, STDIN_FILENO, STDOUT_FILENO};
 use lists::recognise;
+use std::io;
+use streams::fill;
 use writing::refusal::{REFUSAL, write_refusal};
 
 // The most entries that a list has here.
@@ -14,58 +15,60 @@ const ENTRIES: usize = 65536;
 // The most bytes of its text, ten digits and LF an entry, and one by which to see that more came.
 const TEXT: usize = ENTRIES * 11 + 1;
 
-fn refuse(number: u8, z: Address) {
+fn refuse(rt: &impl Print, number: u8, z: Address) -> io::Result<()> {
     let mut line = [0u8; REFUSAL];
     let k = write_refusal(number, z, &mut line);
-    io::write_all(STDOUT_FILENO, &line[..k]);
+    rt.write_all(&line[..k])
 }
 
 // The list is longer than the room for it.
-fn no_room() {
-    refuse(4, Address(0));
-    io::write_all(STDERR_FILENO, b"there is room for ");
-    io::print_decimal(STDERR_FILENO, ENTRIES as u64);
-    io::write_all(STDERR_FILENO, b" entries\n");
+fn no_room(rt: &(impl Print + Eprint)) -> io::Result<()> {
+    refuse(rt, 4, Address(0))?;
+    eprintln!(rt; "there is room for {ENTRIES} entries")
 }
 
-fn answer(text: &[u8], list: &mut [u64]) {
+fn answer(rt: &(impl Print + Eprint), text: &[u8], list: &mut [u64]) -> io::Result<()> {
     let read = read_entries(text, list);
     if read.number == 4 {
-        no_room();
-        return;
+        return no_room(rt);
     }
     if read.number != 0 {
-        refuse(read.number, Address(0));
-        return;
+        return refuse(rt, read.number, Address(0));
     }
     let count = read.count;
     let found = recognise(&list[0..count]);
     if found.number != 0 {
-        refuse(found.number, found.z);
-        return;
+        return refuse(rt, found.number, found.z);
     }
     let mut room = [0u8; FOUND];
     let k = write_found(found, &mut room);
-    io::write_all(STDOUT_FILENO, &room[..k]);
+    rt.write_all(&room[..k])
 }
 
 // Standard input is read to its end, or until it is longer than the text of any list that has room.
-fn take_in(text: &mut [u8], list: &mut [u64]) {
-    let came = io::read_full(STDIN_FILENO, text);
+fn take_in(
+    rt: &(impl Input + Print + Eprint),
+    text: &mut [u8],
+    list: &mut [u64],
+) -> io::Result<()> {
+    let came = fill(&mut rt.reader(), text);
     if came == text.len() {
-        no_room();
-        return;
+        return no_room(rt);
     }
-    answer(&text[..came], list);
+    answer(rt, &text[..came], list)
 }
 
 // Lent by their types, the buffers need no proof of their lengths.
-fn start(text: &mut [u8; TEXT], list: &mut [u64; ENTRIES]) {
-    take_in(text, list);
+fn start(
+    rt: &(impl Input + Print + Eprint),
+    text: &mut [u8; TEXT],
+    list: &mut [u64; ENTRIES],
+) -> io::Result<()> {
+    take_in(rt, text, list)
 }
 
-fn main() {
+fn main(rt: HostRuntime) -> io::Result<()> {
     let mut text = [0u8; TEXT];
     let mut list = [0u64; ENTRIES];
-    start(&mut text, &mut list);
+    start(&rt, &mut text, &mut list)
 }

@@ -7,14 +7,16 @@ mod steps; // steps.rt: steps and runs on lent bytes
 mod still; // still.rt: an order that leaves every record where it is
 mod blanks; // blanks.rt: plans that blank the spent area
 
-fn main() {
-    steps::one_write();
-    steps::in_turn();
-    steps::lengths();
-    steps::wholes();
-    still::asked();
-    still::runs();
-    blanks::one_blank();
-    blanks::in_parts();
-    blanks::wholes();
+use std::io;
+
+fn main(rt: HostRuntime) -> io::Result<()> {
+    steps::one_write(&rt)?;
+    steps::in_turn(&rt)?;
+    steps::lengths(&rt)?;
+    steps::wholes(&rt)?;
+    still::asked(&rt)?;
+    still::runs(&rt)?;
+    blanks::one_blank(&rt)?;
+    blanks::in_parts(&rt)?;
+    blanks::wholes(&rt)
 }

@@ -8,6 +8,7 @@ use order::Order;
 use plan::make::make_plan;
 use planning::Plan;
 use planning::state::State;
+use std::io;
 use totals::{result_area, total_steps};
 
 // The bytes of an area and of the memory in G, where a record has 8.
@@ -67,32 +68,34 @@ fn reversal() -> Plan {
 
 // Asks for a step, and says its number.
 pub(crate) fn ask(
-    asked: &[u8],
+    rt: &impl Print,
+    asked: &str,
     p: Plan,
     s: State,
     k: u64,
     area0: &mut [u8],
     area1: &mut [u8],
     memory: &mut [u8],
-) -> State {
+) -> io::Result<State> {
     let r = step(p, s, Step(k), area0, area1, memory);
-    say::line(asked, &[number(r)]);
-    state(r)
+    say::line(rt, asked, &[number(r)])?;
+    Ok(state(r))
 }
 
 // Runs with an allowance, and says the number, the count and the next step.
 pub(crate) fn go(
-    asked: &[u8],
+    rt: &impl Print,
+    asked: &str,
     p: Plan,
     s: State,
     allowance: u64,
     area0: &mut [u8],
     area1: &mut [u8],
     memory: &mut [u8],
-) -> State {
+) -> io::Result<State> {
     let r = run(p, s, allowance, area0, area1, memory);
-    say::line(asked, &[r.number as u64, r.count, r.state.next.0]);
-    r.state
+    say::line(rt, asked, &[r.number as u64, r.count, r.state.next.0])?;
+    Ok(r.state)
 }
 
 // Byte i of area 1 after step 1 of the reversal: places 0, 1, 10 and 11 have the load's records, and nothing else changed.
@@ -121,7 +124,7 @@ pub(crate) fn wrongly_written(area: &[u8]) -> u64 {
     count
 }
 
-pub(crate) fn one_write() {
+pub(crate) fn one_write(rt: &impl Print) -> io::Result<()> {
     let p = reversal();
     let mut area0 = [0u8; AREA];
     let mut area1 = [0u8; AREA];
@@ -129,29 +132,36 @@ pub(crate) fn one_write() {
     label(&mut area0, 50);
     label(&mut area1, 150);
     let s = ask(
-        b"reversal, step 0",
+        rt,
+        "reversal, step 0",
         p,
         State::fresh(),
         0,
         &mut area0,
         &mut area1,
         &mut memory,
-    );
+    )?;
     ask(
-        b"reversal, step 1",
+        rt,
+        "reversal, step 1",
         p,
         s,
         1,
         &mut area0,
         &mut area1,
         &mut memory,
-    );
+    )?;
     say::line(
-        b"bytes of area 1 that are wrong",
+        rt,
+        "bytes of area 1 that are wrong",
         &[wrongly_written(&area1)],
-    );
-    say::line(b"bytes of area 0 that changed", &[changed(&area0, 50)]);
-    say::line(b"bytes of memory that are wrong", &[changed(&memory, 50)]);
+    )?;
+    say::line(rt, "bytes of area 0 that changed", &[changed(&area0, 50)])?;
+    say::line(
+        rt,
+        "bytes of memory that are wrong",
+        &[changed(&memory, 50)],
+    )
 }
 
 // What there is between two calls in G: the buffers, and the state.
@@ -164,25 +174,41 @@ pub(crate) struct Moment {
 }
 
 // The moment after a step that is asked for.
-pub(crate) fn asks(asked: &[u8], p: Plan, l: Moment, k: u64) -> Moment {
+pub(crate) fn asks(rt: &impl Print, asked: &str, p: Plan, l: Moment, k: u64) -> io::Result<Moment> {
     let mut area0 = l.area0;
     let mut area1 = l.area1;
     let mut memory = l.memory;
-    let state = ask(asked, p, l.state, k, &mut area0, &mut area1, &mut memory);
-    Moment {
+    let state = ask(
+        rt,
+        asked,
+        p,
+        l.state,
+        k,
+        &mut area0,
+        &mut area1,
+        &mut memory,
+    )?;
+    Ok(Moment {
         area0,
         area1,
         memory,
         state,
-    }
+    })
 }
 
 // The moment after a run.
-pub(crate) fn goes(asked: &[u8], p: Plan, l: Moment, allowance: u64) -> Moment {
+pub(crate) fn goes(
+    rt: &impl Print,
+    asked: &str,
+    p: Plan,
+    l: Moment,
+    allowance: u64,
+) -> io::Result<Moment> {
     let mut area0 = l.area0;
     let mut area1 = l.area1;
     let mut memory = l.memory;
     let state = go(
+        rt,
         asked,
         p,
         l.state,
@@ -190,17 +216,17 @@ pub(crate) fn goes(asked: &[u8], p: Plan, l: Moment, allowance: u64) -> Moment {
         &mut area0,
         &mut area1,
         &mut memory,
-    );
-    Moment {
+    )?;
+    Ok(Moment {
         area0,
         area1,
         memory,
         state,
-    }
+    })
 }
 
 // The numbers of steps and runs, in and out of turn, from the first step to past the last.
-pub(crate) fn in_turn() {
+pub(crate) fn in_turn(rt: &impl Print) -> io::Result<()> {
     let p = reversal();
     let mut l = Moment {
         area0: [0u8; AREA],
@@ -208,39 +234,62 @@ pub(crate) fn in_turn() {
         memory: [0u8; MEMORY],
         state: State::fresh(),
     };
-    l = asks(b"fresh, step 0", p, l, 0);
-    l = asks(b"then step 0", p, l, 0);
-    l = asks(b"then step 2", p, l, 2);
-    l = asks(b"then step 1", p, l, 1);
-    l = goes(b"then a run of 0", p, l, 0);
-    l = goes(b"then a run of 1", p, l, 1);
-    l = goes(b"then a run of 100", p, l, 100);
-    l = goes(b"then a run of 100", p, l, 100);
-    l = asks(b"then step 23", p, l, 23);
-    l = asks(b"then step 24", p, l, 24);
-    asks(b"then step 22", p, l, 22);
+    l = asks(rt, "fresh, step 0", p, l, 0)?;
+    l = asks(rt, "then step 0", p, l, 0)?;
+    l = asks(rt, "then step 2", p, l, 2)?;
+    l = asks(rt, "then step 1", p, l, 1)?;
+    l = goes(rt, "then a run of 0", p, l, 0)?;
+    l = goes(rt, "then a run of 1", p, l, 1)?;
+    l = goes(rt, "then a run of 100", p, l, 100)?;
+    l = goes(rt, "then a run of 100", p, l, 100)?;
+    l = asks(rt, "then step 23", p, l, 23)?;
+    l = asks(rt, "then step 24", p, l, 24)?;
+    asks(rt, "then step 22", p, l, 22)?;
+    Ok(())
 }
 
 // How many bytes of three labelled buffers changed.
-pub(crate) fn say_changed(area0: &[u8], area1: &[u8], memory: &[u8]) {
+pub(crate) fn say_changed(
+    rt: &impl Print,
+    area0: &[u8],
+    area1: &[u8],
+    memory: &[u8],
+) -> io::Result<()> {
     say::line(
-        b"bytes that changed",
+        rt,
+        "bytes that changed",
         &[
             changed(area0, 50),
             changed(area1, 150),
             changed(memory, 100),
         ],
-    );
+    )
 }
 
 // A call with three labelled buffers; then how many bytes of each changed.
-fn lent_on(asked: &[u8], p: Plan, k: u64, area0: &mut [u8], area1: &mut [u8], memory: &mut [u8]) {
-    ask(asked, p, State::fresh(), k, area0, area1, memory);
-    say_changed(area0, area1, memory);
+fn lent_on(
+    rt: &impl Print,
+    asked: &str,
+    p: Plan,
+    k: u64,
+    area0: &mut [u8],
+    area1: &mut [u8],
+    memory: &mut [u8],
+) -> io::Result<()> {
+    ask(rt, asked, p, State::fresh(), k, area0, area1, memory)?;
+    say_changed(rt, area0, area1, memory)
 }
 
 // The same with the first bytes of three long buffers, of the lengths given.
-pub(crate) fn lent(asked: &[u8], p: Plan, k: u64, l0: usize, l1: usize, lm: usize) {
+pub(crate) fn lent(
+    rt: &impl Print,
+    asked: &str,
+    p: Plan,
+    k: u64,
+    l0: usize,
+    l1: usize,
+    lm: usize,
+) -> io::Result<()> {
     let mut area0 = [0u8; LONG];
     let mut area1 = [0u8; LONG];
     let mut memory = [0u8; LONG];
@@ -251,44 +300,47 @@ pub(crate) fn lent(asked: &[u8], p: Plan, k: u64, l0: usize, l1: usize, lm: usiz
         if l1 <= LONG {
             if lm <= LONG {
                 lent_on(
+                    rt,
                     asked,
                     p,
                     k,
                     &mut area0[0..l0],
                     &mut area1[0..l1],
                     &mut memory[0..lm],
-                );
+                )?;
             }
         }
     }
+    Ok(())
 }
 
 // Wrong lengths, and the order of the checks.
-pub(crate) fn lengths() {
+pub(crate) fn lengths(rt: &impl Print) -> io::Result<()> {
     let p = reversal();
-    lent(b"area 0 short", p, 0, AREA - 1, AREA, MEMORY);
-    lent(b"area 0 long", p, 0, AREA + 1, AREA, MEMORY);
-    lent(b"area 0 empty", p, 0, 0, AREA, MEMORY);
-    lent(b"area 1 short", p, 0, AREA, AREA - 1, MEMORY);
-    lent(b"area 1 long", p, 0, AREA, AREA + 1, MEMORY);
-    lent(b"area 1 empty", p, 0, AREA, 0, MEMORY);
-    lent(b"memory short", p, 0, AREA, AREA, MEMORY - 1);
-    lent(b"memory long", p, 0, AREA, AREA, MEMORY + 1);
-    lent(b"memory empty", p, 0, AREA, AREA, 0);
+    lent(rt, "area 0 short", p, 0, AREA - 1, AREA, MEMORY)?;
+    lent(rt, "area 0 long", p, 0, AREA + 1, AREA, MEMORY)?;
+    lent(rt, "area 0 empty", p, 0, 0, AREA, MEMORY)?;
+    lent(rt, "area 1 short", p, 0, AREA, AREA - 1, MEMORY)?;
+    lent(rt, "area 1 long", p, 0, AREA, AREA + 1, MEMORY)?;
+    lent(rt, "area 1 empty", p, 0, AREA, 0, MEMORY)?;
+    lent(rt, "memory short", p, 0, AREA, AREA, MEMORY - 1)?;
+    lent(rt, "memory long", p, 0, AREA, AREA, MEMORY + 1)?;
+    lent(rt, "memory empty", p, 0, AREA, AREA, 0)?;
     lent(
-        b"the empty plan, area 0 empty, step 30",
+        rt,
+        "the empty plan, area 0 empty, step 30",
         store::empty_plan(),
         30,
         0,
         AREA,
         MEMORY,
-    );
-    lent(b"area 0 empty, step 30", p, 30, 0, AREA, MEMORY);
-    lent(b"step 30", p, 30, AREA, AREA, MEMORY);
-    lent(b"step 5", p, 5, AREA, AREA, MEMORY);
-    lent(b"step 0", p, 0, AREA, AREA, MEMORY);
+    )?;
+    lent(rt, "area 0 empty, step 30", p, 30, 0, AREA, MEMORY)?;
+    lent(rt, "step 30", p, 30, AREA, AREA, MEMORY)?;
+    lent(rt, "step 5", p, 5, AREA, AREA, MEMORY)?;
+    lent(rt, "step 0", p, 0, AREA, AREA, MEMORY)?;
     let wide = make_plan(trial::largest(32, 256), false);
-    lent(b"areas of 2^40 bytes", wide.plan, 0, AREA, AREA, MEMORY);
+    lent(rt, "areas of 2^40 bytes", wide.plan, 0, AREA, AREA, MEMORY)
 }
 
 // Every step asked twice: how many were answered 0 and 9.
@@ -338,35 +390,46 @@ pub(crate) fn fill(area0: &mut [u8], area1: &mut [u8], memory: &mut [u8]) {
 
 // A whole run with each step again: steps answered rightly, and records that arrived; where the plan blanks, bytes that are zero too.
 fn whole_on(
-    asked: &[u8],
+    rt: &impl Print,
+    asked: &str,
     o: Order,
     blanking: bool,
     n: u64,
     area0: &mut [u8],
     area1: &mut [u8],
     memory: &mut [u8],
-) {
+) -> io::Result<()> {
     let made = make_plan(o, blanking);
     let p = made.plan;
     fill(area0, area1, memory);
     let right = twice(p, area0, area1, memory);
     if result_area(p) == 0 {
-        say::line(asked, &[right, arrived(o, area0, n)]);
+        say::line(rt, asked, &[right, arrived(o, area0, n)])?;
     } else {
-        say::line(asked, &[right, arrived(o, area1, n)]);
+        say::line(rt, asked, &[right, arrived(o, area1, n)])?;
     }
     if blanking {
-        blanks::say_zeros(area0, area1, memory);
+        blanks::say_zeros(rt, area0, area1, memory)?;
     }
+    Ok(())
 }
 
-pub(crate) fn whole(asked: &[u8], o: Order, blanking: bool, n: u64, bytes: usize, room: usize) {
+pub(crate) fn whole(
+    rt: &impl Print,
+    asked: &str,
+    o: Order,
+    blanking: bool,
+    n: u64,
+    bytes: usize,
+    room: usize,
+) -> io::Result<()> {
     let mut area0 = [0u8; AREA];
     let mut area1 = [0u8; AREA];
     let mut memory = [0u8; MEMORY];
     if bytes <= AREA {
         if room <= MEMORY {
             whole_on(
+                rt,
                 asked,
                 o,
                 blanking,
@@ -374,22 +437,23 @@ pub(crate) fn whole(asked: &[u8], o: Order, blanking: bool, n: u64, bytes: usize
                 &mut area0[0..bytes],
                 &mut area1[0..bytes],
                 &mut memory[0..room],
-            );
+            )?;
         }
     }
+    Ok(())
 }
 
-pub(crate) fn wholes() {
+pub(crate) fn wholes(rt: &impl Print) -> io::Result<()> {
     let o = trial::reversal();
-    whole(b"reversal, whole", o, false, 16, AREA, MEMORY);
+    whole(rt, "reversal, whole", o, false, 16, AREA, MEMORY)?;
     let o = trial::identity(15);
-    whole(b"identity, c = 15, whole", o, false, 16, AREA, MEMORY);
+    whole(rt, "identity, c = 15, whole", o, false, 16, AREA, MEMORY)?;
     let o = trial::identity(0);
-    whole(b"identity, whole", o, false, 16, AREA, MEMORY);
+    whole(rt, "identity, whole", o, false, 16, AREA, MEMORY)?;
     let o = trial::gray();
-    whole(b"Gray code, whole", o, false, 16, AREA, MEMORY);
+    whole(rt, "Gray code, whole", o, false, 16, AREA, MEMORY)?;
     let o = trial::exchange();
-    whole(b"0010 0001 1000 0100, whole", o, false, 16, AREA, MEMORY);
+    whole(rt, "0010 0001 1000 0100, whole", o, false, 16, AREA, MEMORY)?;
     let o = trial::small();
-    whole(b"n = 2, 01 10, whole", o, false, 4, 32, 16);
+    whole(rt, "n = 2, 01 10, whole", o, false, 4, 32, 16)
 }

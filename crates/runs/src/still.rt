@@ -5,6 +5,7 @@ use bank::Step;
 use plan::make::make_plan;
 use planning::Plan;
 use planning::state::State;
+use std::io;
 
 fn identity() -> Plan {
     let p = make_plan(trial::identity(0), false);
@@ -12,31 +13,32 @@ fn identity() -> Plan {
 }
 
 // Steps asked, and buffers of wrong lengths.
-pub(crate) fn asked() {
+pub(crate) fn asked(rt: &impl Print) -> io::Result<()> {
     let p = identity();
-    steps::lent(b"identity, step 0", p, 0, AREA, AREA, MEMORY);
-    steps::lent(b"identity, step 1", p, 1, AREA, AREA, MEMORY);
-    steps::lent(b"identity, area 0 short", p, 0, AREA - 1, AREA, MEMORY);
-    steps::lent(b"identity, area 1 long", p, 0, AREA, AREA + 1, MEMORY);
-    steps::lent(b"identity, memory empty", p, 0, AREA, AREA, 0);
+    steps::lent(rt, "identity, step 0", p, 0, AREA, AREA, MEMORY)?;
+    steps::lent(rt, "identity, step 1", p, 1, AREA, AREA, MEMORY)?;
+    steps::lent(rt, "identity, area 0 short", p, 0, AREA - 1, AREA, MEMORY)?;
+    steps::lent(rt, "identity, area 1 long", p, 0, AREA, AREA + 1, MEMORY)?;
+    steps::lent(rt, "identity, memory empty", p, 0, AREA, AREA, 0)
 }
 
 // A run from a state with three labelled buffers; then how many bytes of each changed.
 fn run_on(
-    name: &[u8],
+    rt: &impl Print,
+    name: &str,
     next: u64,
     allowance: u64,
     area0: &mut [u8],
     area1: &mut [u8],
     memory: &mut [u8],
-) {
+) -> io::Result<()> {
     let s = State { next: Step(next) };
-    steps::go(name, identity(), s, allowance, area0, area1, memory);
-    steps::say_changed(area0, area1, memory);
+    steps::go(rt, name, identity(), s, allowance, area0, area1, memory)?;
+    steps::say_changed(rt, area0, area1, memory)
 }
 
 // The same with a memory of so many bytes.
-fn run(name: &[u8], next: u64, allowance: u64, room: usize) {
+fn run(rt: &impl Print, name: &str, next: u64, allowance: u64, room: usize) -> io::Result<()> {
     let mut area0 = [0u8; AREA];
     let mut area1 = [0u8; AREA];
     let mut memory = [0u8; MEMORY];
@@ -45,25 +47,28 @@ fn run(name: &[u8], next: u64, allowance: u64, room: usize) {
     steps::label(&mut memory, 100);
     if room <= MEMORY {
         run_on(
+            rt,
             name,
             next,
             allowance,
             &mut area0,
             &mut area1,
             &mut memory[0..room],
-        );
+        )?;
     }
+    Ok(())
 }
 
-pub(crate) fn runs() {
-    run(b"identity, a run of 5", 0, 5, MEMORY);
-    run(b"identity, a run of 0", 0, 0, MEMORY);
-    run(b"identity, memory short, a run of 5", 0, 5, MEMORY - 1);
-    run(b"identity, from step 1, a run of 5", 1, 5, MEMORY);
+pub(crate) fn runs(rt: &impl Print) -> io::Result<()> {
+    run(rt, "identity, a run of 5", 0, 5, MEMORY)?;
+    run(rt, "identity, a run of 0", 0, 0, MEMORY)?;
+    run(rt, "identity, memory short, a run of 5", 0, 5, MEMORY - 1)?;
+    run(rt, "identity, from step 1, a run of 5", 1, 5, MEMORY)?;
     run(
-        b"identity, from step 1, memory short, a run of 5",
+        rt,
+        "identity, from step 1, memory short, a run of 5",
         1,
         5,
         MEMORY - 1,
-    );
+    )
 }

@@ -3,6 +3,7 @@ use crate::say;
 use bank::ROWS;
 use lists::recognise;
 use matrix::rows::apply;
+use std::io;
 use std::num::wrapping_add_u64;
 
 const BITS: usize = 16;
@@ -51,39 +52,41 @@ fn same_rows(a: &[u32; ROWS], b: &[u32; ROWS]) -> u64 {
 }
 
 // The number, how many rows are as they were, the difference of the complements, and z; then the same with one entry changed.
-fn tried(name: &[u8], list: &mut [u64; ENTRIES], seed: u64) {
+fn tried(rt: &impl Print, name: &str, list: &mut [u64; ENTRIES], seed: u64) -> io::Result<()> {
     let rows = random_rows(seed);
     let c = (next(seed ^ 1) >> 48) as u32;
     fill(list, &rows, c);
     let r = recognise(list);
     let found = r.rows;
     say::counted(
+        rt,
         name,
         r.number as u64,
         same_rows(&rows, &found),
         bank::wide(r.complement ^ c),
         r.z.0,
-    );
+    )?;
     let x = (next(seed ^ 2) >> 48) as usize;
     if x < ENTRIES {
         list[x] = list[x] ^ 1;
     }
     let s = recognise(list);
     say::counted(
-        b"  an entry changed",
+        rt,
+        "  an entry changed",
         s.number as u64,
         bank::wide(s.n),
         bank::wide(s.complement),
         s.z.0,
-    );
+    )
 }
 
-pub(crate) fn random() {
+pub(crate) fn random(rt: &impl Print) -> io::Result<()> {
     let mut list = [0u64; ENTRIES];
-    tried(b"n = 16, seed 1", &mut list, 81985529216486895);
-    tried(b"n = 16, seed 2", &mut list, 1147797409030816545);
-    tried(b"n = 16, seed 3", &mut list, 3141592653589793238);
-    tried(b"n = 16, seed 4", &mut list, 2718281828459045235);
-    tried(b"n = 16, seed 5", &mut list, 1618033988749894848);
-    tried(b"n = 16, seed 6", &mut list, 1414213562373095048);
+    tried(rt, "n = 16, seed 1", &mut list, 81985529216486895)?;
+    tried(rt, "n = 16, seed 2", &mut list, 1147797409030816545)?;
+    tried(rt, "n = 16, seed 3", &mut list, 3141592653589793238)?;
+    tried(rt, "n = 16, seed 4", &mut list, 2718281828459045235)?;
+    tried(rt, "n = 16, seed 5", &mut list, 1618033988749894848)?;
+    tried(rt, "n = 16, seed 6", &mut list, 1414213562373095048)
 }

@@ -6,17 +6,19 @@ mod small; // small.rt: lists of four and of sixteen entries
 mod long; // long.rt: lists of 65,536 entries
 mod texts; // texts.rt: list texts, right and wrong
 
-fn main() {
-    small::orders();
-    small::singular();
-    small::changed();
-    small::lengths();
-    small::large();
-    small::large_among_wrong();
-    small::every_four();
-    long::random();
-    texts::right();
-    texts::wrong_numbers();
-    texts::wrong_lines();
-    texts::wrong_bytes();
+use std::io;
+
+fn main(rt: HostRuntime) -> io::Result<()> {
+    small::orders(&rt)?;
+    small::singular(&rt)?;
+    small::changed(&rt)?;
+    small::lengths(&rt)?;
+    small::large(&rt)?;
+    small::large_among_wrong(&rt)?;
+    small::every_four(&rt)?;
+    long::random(&rt)?;
+    texts::right(&rt)?;
+    texts::wrong_numbers(&rt)?;
+    texts::wrong_lines(&rt)?;
+    texts::wrong_bytes(&rt)
 }

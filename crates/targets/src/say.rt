@@ -1,46 +1,51 @@
 // What came back: the number, n, the rows, c and z of an answer; or numbers that were counted.
 use bank::ROWS;
-use libc::STDOUT_FILENO;
 use lists::Recognised;
+use std::io;
 
-fn number(k: u64) {
-    io::write_all(STDOUT_FILENO, b" ");
-    io::print_decimal(STDOUT_FILENO, k);
+fn number(rt: &impl Print, k: u64) -> io::Result<()> {
+    print!(rt; " {k}")
 }
 
 // The first n rows.
-fn rows(list: &[u32; ROWS], n: usize) {
+fn rows(rt: &impl Print, list: &[u32; ROWS], n: usize) -> io::Result<()> {
     let mut i = 0;
     while i < ROWS {
         if i < n {
-            number(bank::wide(list[i]));
+            number(rt, bank::wide(list[i]))?;
         }
         i += 1;
     }
+    Ok(())
 }
 
-pub(crate) fn answer(asked: &[u8], r: Recognised) {
+pub(crate) fn answer(rt: &impl Print, asked: &str, r: Recognised) -> io::Result<()> {
     let list = r.rows;
-    io::write_all(STDOUT_FILENO, asked);
-    io::write_all(STDOUT_FILENO, b": number");
-    number(r.number as u64);
-    io::write_all(STDOUT_FILENO, b", n");
-    number(bank::wide(r.n));
-    io::write_all(STDOUT_FILENO, b", rows");
-    rows(&list, r.n as usize);
-    io::write_all(STDOUT_FILENO, b", c");
-    number(bank::wide(r.complement));
-    io::write_all(STDOUT_FILENO, b", z");
-    number(r.z.0);
-    io::write_all(STDOUT_FILENO, b"\n");
+    print!(rt; "{asked}: number")?;
+    number(rt, r.number as u64)?;
+    print!(rt; ", n")?;
+    number(rt, bank::wide(r.n))?;
+    print!(rt; ", rows")?;
+    rows(rt, &list, r.n as usize)?;
+    print!(rt; ", c")?;
+    number(rt, bank::wide(r.complement))?;
+    print!(rt; ", z")?;
+    number(rt, r.z.0)?;
+    println!(rt)
 }
 
-pub(crate) fn counted(asked: &[u8], a: u64, b: u64, c: u64, d: u64) {
-    io::write_all(STDOUT_FILENO, asked);
-    io::write_all(STDOUT_FILENO, b":");
-    number(a);
-    number(b);
-    number(c);
-    number(d);
-    io::write_all(STDOUT_FILENO, b"\n");
+pub(crate) fn counted(
+    rt: &impl Print,
+    asked: &str,
+    a: u64,
+    b: u64,
+    c: u64,
+    d: u64,
+) -> io::Result<()> {
+    print!(rt; "{asked}:")?;
+    number(rt, a)?;
+    number(rt, b)?;
+    number(rt, c)?;
+    number(rt, d)?;
+    println!(rt)
 }

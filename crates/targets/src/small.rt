@@ -3,6 +3,7 @@ use crate::say;
 use lists::recognise;
 use matrix::rows::apply;
 use order::Order;
+use std::io;
 use std::num::wrapping_add_u64;
 use trial::{gray, identity, in_g, reversal};
 
@@ -43,8 +44,8 @@ fn with_list(t: Tally, list: &[u64]) -> Tally {
     out
 }
 
-fn said(asked: &[u8], t: Tally) {
-    say::counted(asked, t.taken, t.singular, t.none, t.misshapen);
+fn said(rt: &impl Print, asked: &str, t: Tally) -> io::Result<()> {
+    say::counted(rt, asked, t.taken, t.singular, t.none, t.misshapen)
 }
 
 // The list of an order of four rows, regular or not.
@@ -59,25 +60,25 @@ fn list_of(o: Order) -> [u64; 16] {
     list
 }
 
-fn asked(name: &[u8], o: Order) {
+fn asked(rt: &impl Print, name: &str, o: Order) -> io::Result<()> {
     let list = list_of(o);
-    say::answer(name, recognise(&list));
+    say::answer(rt, name, recognise(&list))
 }
 
-pub(crate) fn orders() {
-    asked(b"reversal", reversal());
-    asked(b"Gray code", gray());
-    asked(b"identity, c = 15", identity(15));
-    asked(b"rows 3, 5, 9, 8, c = 6", in_g(3, 5, 9, 8, 6));
+pub(crate) fn orders(rt: &impl Print) -> io::Result<()> {
+    asked(rt, "reversal", reversal())?;
+    asked(rt, "Gray code", gray())?;
+    asked(rt, "identity, c = 15", identity(15))?;
+    asked(rt, "rows 3, 5, 9, 8, c = 6", in_g(3, 5, 9, 8, 6))
 }
 
 // Two entries are equal.
-pub(crate) fn singular() {
-    asked(b"three rows that sum to zero", in_g(3, 5, 6, 8, 9));
-    asked(b"0100 0010 0001 0000", in_g(2, 4, 8, 0, 0));
-    asked(b"0000 1000 0100 0010", in_g(0, 1, 2, 4, 0));
-    asked(b"1100 0011 and zero rows", in_g(3, 12, 0, 0, 15));
-    asked(b"every entry 5", in_g(0, 0, 0, 0, 5));
+pub(crate) fn singular(rt: &impl Print) -> io::Result<()> {
+    asked(rt, "three rows that sum to zero", in_g(3, 5, 6, 8, 9))?;
+    asked(rt, "0100 0010 0001 0000", in_g(2, 4, 8, 0, 0))?;
+    asked(rt, "0000 1000 0100 0010", in_g(0, 1, 2, 4, 0))?;
+    asked(rt, "1100 0011 and zero rows", in_g(3, 12, 0, 0, 15))?;
+    asked(rt, "every entry 5", in_g(0, 0, 0, 0, 5))
 }
 
 // Entry x changed by v.
@@ -102,7 +103,7 @@ fn other_entries(t: Tally, list: [u64; 16], x: usize) -> Tally {
 }
 
 // Each entry in turn is changed.
-fn one_changed(name: &[u8], o: Order) {
+fn one_changed(rt: &impl Print, name: &str, o: Order) -> io::Result<()> {
     let list = list_of(o);
     let mut t = no_tally();
     let mut x = 0;
@@ -110,66 +111,67 @@ fn one_changed(name: &[u8], o: Order) {
         t = other_entries(t, list, x);
         x += 1;
     }
-    said(name, t);
+    said(rt, name, t)
 }
 
-pub(crate) fn changed() {
-    one_changed(b"reversal, an entry changed", reversal());
-    one_changed(b"Gray code, an entry changed", gray());
-    one_changed(b"identity, c = 15, an entry changed", identity(15));
-    one_changed(b"singular, an entry changed", in_g(3, 5, 6, 8, 9));
-    one_changed(b"every entry 5, an entry changed", in_g(0, 0, 0, 0, 5));
+pub(crate) fn changed(rt: &impl Print) -> io::Result<()> {
+    one_changed(rt, "reversal, an entry changed", reversal())?;
+    one_changed(rt, "Gray code, an entry changed", gray())?;
+    one_changed(rt, "identity, c = 15, an entry changed", identity(15))?;
+    one_changed(rt, "singular, an entry changed", in_g(3, 5, 6, 8, 9))?;
+    one_changed(rt, "every entry 5, an entry changed", in_g(0, 0, 0, 0, 5))
 }
 
 // The first k entries of the identity's list.
-fn first_entries(name: &[u8], k: usize) {
+fn first_entries(rt: &impl Print, name: &str, k: usize) -> io::Result<()> {
     let list = list_of(identity(0));
     if k <= 16 {
-        say::answer(name, recognise(&list[0..k]));
+        say::answer(rt, name, recognise(&list[0..k]))?;
     }
+    Ok(())
 }
 
-pub(crate) fn lengths() {
-    first_entries(b"length 0", 0);
-    first_entries(b"length 1", 1);
-    first_entries(b"length 2", 2);
-    first_entries(b"length 3", 3);
-    first_entries(b"length 4", 4);
-    first_entries(b"length 5", 5);
-    first_entries(b"length 8", 8);
-    first_entries(b"length 15", 15);
-    first_entries(b"length 16", 16);
+pub(crate) fn lengths(rt: &impl Print) -> io::Result<()> {
+    first_entries(rt, "length 0", 0)?;
+    first_entries(rt, "length 1", 1)?;
+    first_entries(rt, "length 2", 2)?;
+    first_entries(rt, "length 3", 3)?;
+    first_entries(rt, "length 4", 4)?;
+    first_entries(rt, "length 5", 5)?;
+    first_entries(rt, "length 8", 8)?;
+    first_entries(rt, "length 15", 15)?;
+    first_entries(rt, "length 16", 16)
 }
 
 // The identity, but for the entry of the last address.
-fn last_entry(name: &[u8], v: u64) {
+fn last_entry(rt: &impl Print, name: &str, v: u64) -> io::Result<()> {
     let mut list = list_of(identity(0));
     list[15] = v;
-    say::answer(name, recognise(&list));
+    say::answer(rt, name, recognise(&list))
 }
 
-pub(crate) fn large() {
-    last_entry(b"last entry 15", 15);
-    last_entry(b"last entry 14", 14);
-    last_entry(b"last entry N", 16);
-    last_entry(b"last entry N + 15", 31);
-    last_entry(b"last entry 2^32 + 15", 4294967311);
-    last_entry(b"last entry 2^64 - 1", 18446744073709551615);
+pub(crate) fn large(rt: &impl Print) -> io::Result<()> {
+    last_entry(rt, "last entry 15", 15)?;
+    last_entry(rt, "last entry 14", 14)?;
+    last_entry(rt, "last entry N", 16)?;
+    last_entry(rt, "last entry N + 15", 31)?;
+    last_entry(rt, "last entry 2^32 + 15", 4294967311)?;
+    last_entry(rt, "last entry 2^64 - 1", 18446744073709551615)
 }
 
 // An entry is N or more, and nothing gives the list.
-pub(crate) fn large_among_wrong() {
+pub(crate) fn large_among_wrong(rt: &impl Print) -> io::Result<()> {
     let mut list = list_of(reversal());
     list[3] = 5;
     list[0] = 16;
-    say::answer(b"no order's, and entry 0 is N", recognise(&list));
+    say::answer(rt, "no order's, and entry 0 is N", recognise(&list))?;
     let mut first = list_of(reversal());
     first[1] = 24;
-    say::answer(b"column 0 has a bit too many", recognise(&first));
+    say::answer(rt, "column 0 has a bit too many", recognise(&first))
 }
 
 // Every list of four entries, each 0 to 4.
-pub(crate) fn every_four() {
+pub(crate) fn every_four(rt: &impl Print) -> io::Result<()> {
     let mut t = no_tally();
     let mut code = 0u64;
     while code < 625 {
@@ -177,5 +179,5 @@ pub(crate) fn every_four() {
         t = with_list(t, &list);
         code += 1;
     }
-    said(b"every list of four entries, each 0 to 4", t);
+    said(rt, "every list of four entries, each 0 to 4", t)
 }

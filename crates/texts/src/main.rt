@@ -1,52 +1,59 @@
 // Reads the order texts that the arguments name, and writes for each its name and what `list` would write.
 #![tactic(auto)]
 
-use libc::STDOUT_FILENO;
 use listing::{ROOM, list_plan, listing_size};
 use plan::make::make_plan;
 use reading::{read_order, text_room};
+use std::rt::{Env, Files};
+use std::{fs, io, str};
+use streams::{WORD, fill, word, word_count};
 use writing::refusal::{REFUSAL, write_refusal};
 
-fn answer(text: &[u8]) {
+fn answer(rt: &impl Print, text: &[u8]) -> io::Result<()> {
     let read = read_order(text);
     if read.number != 0 {
         let mut line = [0u8; REFUSAL];
         let k = write_refusal(read.number, read.z, &mut line);
-        io::write_all(STDOUT_FILENO, &line[..k]);
-        return;
+        return rt.write_all(&line[..k]);
     }
     let planned = make_plan(read.order, false);
     let mut room = [0u8; ROOM];
     let k = list_plan(planned.plan, &mut room);
     if k != listing_size(planned.plan) {
-        io::write_all(STDOUT_FILENO, b"listing of another size\n");
-        return;
+        return println!(rt; "listing of another size");
     }
-    io::write_all(STDOUT_FILENO, &room[..k]);
+    rt.write_all(&room[..k])
+}
+
+// The file can't be opened: the reason in the system's words, without the number that follows them.
+fn fail(rt: &(impl Eprint + Alloc), path: &str, error: io::Error) -> io::Result<()> {
+    let text = format!(in rt.alloc(); "{error}")?;
+    let reason = text.as_str().split(" (os error ").next().unwrap_or("");
+    eprintln!(rt; "{path}: {reason}")
 }
 
 // The text in the file that the argument names.
-fn one(which: usize) {
-    let mut path = io::buffer();
-    let length = os::arg(which, &mut path);
-    io::write_all(STDOUT_FILENO, &path[..length]);
-    io::write_all(STDOUT_FILENO, b"\n");
-    let fd = os::open_read(&path[..length]);
-    if fd < 0 {
-        os::fail(&path[..length]);
-        return;
-    }
+fn one(rt: &(impl Env + Files + Print + Eprint + Alloc), which: usize) -> io::Result<()> {
+    let mut name = [0u8; WORD];
+    let length = word(rt, which, &mut name);
+    rt.write_all(&name[..length])?;
+    println!(rt)?;
+    let Ok(path) = str::from_utf8(&name[..length]) else {
+        // A name that is no text is no file's here.
+        return eprintln!(rt; "the name is no text");
+    };
+    let mut file = match fs::open(rt, path) {
+        Ok(file) => file,
+        Err(error) => return fail(rt, path, error),
+    };
     let mut buffer = text_room();
-    let n = io::read_full(fd, &mut buffer);
-    libc::close(fd);
-    answer(&buffer[..n]);
+    let n = fill(&mut file, &mut buffer);
+    answer(rt, &buffer[..n])
 }
 
-fn main() {
-    let count = os::arg_count();
-    let mut k = 1;
-    while k < count {
-        one(k);
-        k += 1;
+fn main(rt: HostRuntime) -> io::Result<()> {
+    for k in 1..word_count(&rt) {
+        one(&rt, k)?;
     }
+    Ok(())
 }

@@ -8,6 +8,7 @@ use order::Order;
 use planning::Plan;
 use planning::state::State;
 use running::can_run;
+use std::io;
 use totals::total_steps;
 use trial::geometry;
 
@@ -53,38 +54,46 @@ fn reversed_rows() -> [u32; ROWS] {
 }
 
 // No bit is stray, and the largest address is taken.
-pub(crate) fn words() {
+pub(crate) fn words(rt: &impl Print) -> io::Result<()> {
     let high = order(high_rows(), 6, 2, 14, 8);
     let same = order(same_rows(), 6, 2, 14, 8);
-    orders::judged(b"n = 32, bit 31 in every row", high);
-    orders::judged(b"n = 32, bit 31 alone in every row", same);
-    orders::forward(b"n = 32, bit 31 in every row, 0", high, 0);
-    orders::forward(b"n = 32, bit 31 in every row, 2^31", high, 2147483648);
-    orders::forward(b"n = 32, bit 31 in every row, 2^31 + 1", high, 2147483649);
-    orders::forward(b"n = 32, address N - 1", high, LAST);
-    orders::forward(b"n = 32, address N", high, SIZE);
-    orders::forward(b"n = 32, address 2^64 - 1", high, 18446744073709551615);
-    orders::forward(b"n = 32, singular, address N", same, SIZE);
-    orders::backward(b"n = 32, back from N - 1", high, LAST);
-    orders::backward(b"n = 32, back from 0", high, 0);
-    orders::backward(b"n = 32, back from N", high, SIZE);
-    orders::backward(b"n = 32, singular, back from N", same, SIZE);
+    orders::judged(rt, "n = 32, bit 31 in every row", high)?;
+    orders::judged(rt, "n = 32, bit 31 alone in every row", same)?;
+    orders::forward(rt, "n = 32, bit 31 in every row, 0", high, 0)?;
+    orders::forward(rt, "n = 32, bit 31 in every row, 2^31", high, 2147483648)?;
+    orders::forward(
+        rt,
+        "n = 32, bit 31 in every row, 2^31 + 1",
+        high,
+        2147483649,
+    )?;
+    orders::forward(rt, "n = 32, address N - 1", high, LAST)?;
+    orders::forward(rt, "n = 32, address N", high, SIZE)?;
+    orders::forward(rt, "n = 32, address 2^64 - 1", high, 18446744073709551615)?;
+    orders::forward(rt, "n = 32, singular, address N", same, SIZE)?;
+    orders::backward(rt, "n = 32, back from N - 1", high, LAST)?;
+    orders::backward(rt, "n = 32, back from 0", high, 0)?;
+    orders::backward(rt, "n = 32, back from N", high, SIZE)?;
+    orders::backward(rt, "n = 32, singular, back from N", same, SIZE)
 }
 
 // Plans for n = 32: as many passes as there are, and totals past 32 bits.
-pub(crate) fn made() {
+pub(crate) fn made(rt: &impl Print) -> io::Result<()> {
     plans::planned(
-        b"n = 32, reversal, 16 rounds",
+        rt,
+        "n = 32, reversal, 16 rounds",
         order(reversed_rows(), 15, 1, 16, 256),
-    );
+    )?;
     plans::planned(
-        b"n = 32, reversal, blocks of one record on one drive",
+        rt,
+        "n = 32, reversal, blocks of one record on one drive",
         order(reversed_rows(), 0, 0, 1, 1),
-    );
+    )?;
     plans::planned(
-        b"n = 32, bit 31 alone in every row",
+        rt,
+        "n = 32, bit 31 alone in every row",
         order(same_rows(), 0, 0, 1, 1),
-    );
+    )
 }
 
 // A plan whose passes leave every record at its address.
@@ -123,49 +132,55 @@ fn sizes(count: u32) -> u64 {
     found
 }
 
-pub(crate) fn counts() {
-    say::one(b"no passes, so many n at which they can run", sizes(0));
-    say::one(b"14 passes, so many n at which they can run", sizes(14));
-    say::one(b"15 passes, so many n at which they can run", sizes(15));
-    say::one(b"16 passes, so many n at which they can run", sizes(16));
-    say::one(b"17 passes, so many n at which they can run", sizes(17));
-    say::one(b"18 passes, so many n at which they can run", sizes(18));
+pub(crate) fn counts(rt: &impl Print) -> io::Result<()> {
+    say::one(rt, "no passes, so many n at which they can run", sizes(0))?;
+    say::one(rt, "14 passes, so many n at which they can run", sizes(14))?;
+    say::one(rt, "15 passes, so many n at which they can run", sizes(15))?;
+    say::one(rt, "16 passes, so many n at which they can run", sizes(16))?;
+    say::one(rt, "17 passes, so many n at which they can run", sizes(17))?;
+    say::one(rt, "18 passes, so many n at which they can run", sizes(18))
 }
 
 // The longest run: 17 passes of 2^33 steps.
-pub(crate) fn totals() {
+pub(crate) fn totals(rt: &impl Print) -> io::Result<()> {
     let p = still(geometry(32, 0, 0, 1, 256), 17);
     let total = 146028888064;
-    say::one(b"n = 32, 17 passes, the total", total_steps(p));
-    plans::runs(b"next 2^32", p, SIZE);
-    plans::runs(b"next at the total", p, total);
-    plans::runs(b"next above the total", p, total + 1);
-    plans::runs(b"next 2^32 above the total", p, total + SIZE);
-    plans::runs(b"next 2^64 - 1", p, 18446744073709551615);
+    say::one(rt, "n = 32, 17 passes, the total", total_steps(p))?;
+    plans::runs(rt, "next 2^32", p, SIZE)?;
+    plans::runs(rt, "next at the total", p, total)?;
+    plans::runs(rt, "next above the total", p, total + 1)?;
+    plans::runs(rt, "next 2^32 above the total", p, total + SIZE)?;
+    plans::runs(rt, "next 2^64 - 1", p, 18446744073709551615)
 }
 
 // A step and a run from a state, with no bytes lent: both are refused.
-fn short(asked: &[u8], p: Plan, next: u64, k: u64) {
+fn short(rt: &impl Print, asked: &str, p: Plan, next: u64, k: u64) -> io::Result<()> {
     let mut area0 = [0u8; 0];
     let mut area1 = [0u8; 0];
     let mut memory = [0u8; 0];
     let s = State { next: Step(next) };
     let r = step(p, s, Step(k), &mut area0, &mut area1, &mut memory);
     if let Stepped::Refused(number, _) = r {
-        say::one(asked, number as u64);
+        say::one(rt, asked, number as u64)?;
     }
     let ran = run(p, s, LAST, &mut area0, &mut area1, &mut memory);
-    say::three(b"and a run", ran.number as u64, ran.count, ran.state.next.0);
+    say::three(
+        rt,
+        "and a run",
+        ran.number as u64,
+        ran.count,
+        ran.state.next.0,
+    )
 }
 
 // Areas of 2^40 bytes and a memory of 2^39, or areas of 2^32: in 32 bits each is 0, and so are buffers of no bytes.
-pub(crate) fn lengths() {
+pub(crate) fn lengths(rt: &impl Print) -> io::Result<()> {
     let p = still(geometry(32, 0, 0, 31, 256), 2);
     let q = still(geometry(32, 0, 0, 1, 1), 2);
     let total = 4 * SIZE;
-    short(b"areas of 2^40 bytes, none lent", p, 0, 0);
-    short(b"areas of 2^32 bytes, none lent", q, 0, 0);
-    short(b"at step 2^32 + 1, asked 0, none lent", p, SIZE + 1, 0);
-    short(b"at the total, asked it, none lent", p, total, total);
-    short(b"above the total, none lent", p, total + 1, total);
+    short(rt, "areas of 2^40 bytes, none lent", p, 0, 0)?;
+    short(rt, "areas of 2^32 bytes, none lent", q, 0, 0)?;
+    short(rt, "at step 2^32 + 1, asked 0, none lent", p, SIZE + 1, 0)?;
+    short(rt, "at the total, asked it, none lent", p, total, total)?;
+    short(rt, "above the total, none lent", p, total + 1, total)
 }

@@ -9,23 +9,25 @@ mod still; // still.rt: an order that leaves every record where it is
 mod blanks; // blanks.rt: plans that blank the spent area
 mod limits; // limits.rt: what is tried at the limits
 
-fn main() {
-    orders::geometries();
-    orders::forms();
-    orders::forwards();
-    orders::backwards();
-    why::small();
-    why::wide();
-    plans::made();
-    plans::judged();
-    plans::judged_more();
-    plans::spilling();
-    still::planned();
-    blanks::planned();
-    blanks::judged();
-    limits::words();
-    limits::made();
-    limits::counts();
-    limits::totals();
-    limits::lengths();
+use std::io;
+
+fn main(rt: HostRuntime) -> io::Result<()> {
+    orders::geometries(&rt)?;
+    orders::forms(&rt)?;
+    orders::forwards(&rt)?;
+    orders::backwards(&rt)?;
+    why::small(&rt)?;
+    why::wide(&rt)?;
+    plans::made(&rt)?;
+    plans::judged(&rt)?;
+    plans::judged_more(&rt)?;
+    plans::spilling(&rt)?;
+    still::planned(&rt)?;
+    blanks::planned(&rt)?;
+    blanks::judged(&rt)?;
+    limits::words(&rt)?;
+    limits::made(&rt)?;
+    limits::counts(&rt)?;
+    limits::totals(&rt)?;
+    limits::lengths(&rt)
 }

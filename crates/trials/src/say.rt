@@ -1,44 +1,49 @@
 // A line of output: what was asked, and the numbers that came back.
-use libc::STDOUT_FILENO;
+use std::io;
 
-fn first(asked: &[u8], number: u64) {
-    io::write_all(STDOUT_FILENO, asked);
-    io::write_all(STDOUT_FILENO, b": ");
-    io::print_decimal(STDOUT_FILENO, number);
+fn first(rt: &impl Print, asked: &str, number: u64) -> io::Result<()> {
+    print!(rt; "{asked}: {number}")
 }
 
-fn further(number: u64) {
-    io::write_all(STDOUT_FILENO, b" ");
-    io::print_decimal(STDOUT_FILENO, number);
+fn further(rt: &impl Print, number: u64) -> io::Result<()> {
+    print!(rt; " {number}")
 }
 
-fn end() {
-    io::write_all(STDOUT_FILENO, b"\n");
+fn end(rt: &impl Print) -> io::Result<()> {
+    println!(rt)
 }
 
-pub(crate) fn one(asked: &[u8], number: u64) {
-    first(asked, number);
-    end();
+pub(crate) fn one(rt: &impl Print, asked: &str, number: u64) -> io::Result<()> {
+    first(rt, asked, number)?;
+    end(rt)
 }
 
-pub(crate) fn two(asked: &[u8], number: u64, value: u64) {
-    first(asked, number);
-    further(value);
-    end();
+pub(crate) fn two(rt: &impl Print, asked: &str, number: u64, value: u64) -> io::Result<()> {
+    first(rt, asked, number)?;
+    further(rt, value)?;
+    end(rt)
 }
 
-pub(crate) fn three(asked: &[u8], a: u64, b: u64, c: u64) {
-    first(asked, a);
-    further(b);
-    further(c);
-    end();
+pub(crate) fn three(rt: &impl Print, asked: &str, a: u64, b: u64, c: u64) -> io::Result<()> {
+    first(rt, asked, a)?;
+    further(rt, b)?;
+    further(rt, c)?;
+    end(rt)
 }
 
-pub(crate) fn five(asked: &[u8], a: u64, b: u64, c: u64, d: u64, e: u64) {
-    first(asked, a);
-    further(b);
-    further(c);
-    further(d);
-    further(e);
-    end();
+pub(crate) fn five(
+    rt: &impl Print,
+    asked: &str,
+    a: u64,
+    b: u64,
+    c: u64,
+    d: u64,
+    e: u64,
+) -> io::Result<()> {
+    first(rt, asked, a)?;
+    further(rt, b)?;
+    further(rt, c)?;
+    further(rt, d)?;
+    further(rt, e)?;
+    end(rt)
 }

@@ -2,6 +2,7 @@
 use crate::plans;
 use plan::make::make_plan;
 use planning::Plan;
+use std::io;
 
 fn identity() -> Plan {
     let p = make_plan(trial::identity(0), false);
@@ -9,12 +10,12 @@ fn identity() -> Plan {
 }
 
 // The identity with the lowest or the highest bit of c alone, and with one entry more in its first or its last row.
-pub(crate) fn planned() {
-    plans::planned(b"identity, c = 1", trial::identity(1));
-    plans::planned(b"identity, c = 8", trial::identity(8));
-    plans::planned(b"identity but for row 0", trial::in_g(3, 2, 4, 8, 0));
-    plans::planned(b"identity but for row 3", trial::in_g(1, 2, 4, 12, 0));
-    plans::planned(b"n = 32, identity", trial::largest(32, 8));
-    plans::runs(b"identity, next 0", identity(), 0);
-    plans::runs(b"identity, next 1", identity(), 1);
+pub(crate) fn planned(rt: &impl Print) -> io::Result<()> {
+    plans::planned(rt, "identity, c = 1", trial::identity(1))?;
+    plans::planned(rt, "identity, c = 8", trial::identity(8))?;
+    plans::planned(rt, "identity but for row 0", trial::in_g(3, 2, 4, 8, 0))?;
+    plans::planned(rt, "identity but for row 3", trial::in_g(1, 2, 4, 12, 0))?;
+    plans::planned(rt, "n = 32, identity", trial::largest(32, 8))?;
+    plans::runs(rt, "identity, next 0", identity(), 0)?;
+    plans::runs(rt, "identity, next 1", identity(), 1)
 }

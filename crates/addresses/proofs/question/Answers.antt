@@ -2,7 +2,6 @@
 use mathlib.Core.Path.{◌≡◌, ap, sym, ◌∙◌}
 use Prim.Native.Nat.{ℕ}
 use native.Mathlib.Omega.{arith}
-use borrow.Author.Rules.{rules}
 use lib.Dec.{leb}
 use Rattle.bank.specs.Checks.{refuse}
 use Rattle.bank.proofs.Limits.{limits→allowed}
@@ -20,13 +19,12 @@ returns-then-judged-ne0 c =
 pub power-requires : goal.power-requires
 power-requires c =
     let taken : judgement c.args.order ≡ 0 =
-        sym (ap (λ (v : Verdict). v.number) c.judge-judged.ensures) ∙ c.if-judged-ne0.false in
+    sym (ap (λ (v : Verdict). v.number) c.judge-judged.ensures) ∙ c.if-judged-ne0.false in
     let ok = limits→allowed _ (judgement→accepted _ taken).inside in omega (arith, ok.n_high)
 
 pub returns : goal.returns
 returns c =
     let taken : judgement c.args.order ≡ 0 =
-        sym (ap (λ (v : Verdict). v.number) c.judge-judged.ensures) ∙ c.if-judged-ne0.false in
-    let i = c in
+    sym (ap (λ (v : Verdict). v.number) c.judge-judged.ensures) ∙ c.if-judged-ne0.false in
     question_taken _ _ _ taken
-    (c.refuse.ensures ∙ ap (λ (k : ℕ). refuse (leb k i.args.x.0) 10 0) c.power.ensures)
+    (c.refuse.ensures ∙ ap (λ (k : ℕ). refuse (leb k c.args.x.0) 10 0) c.power.ensures)

@@ -9,7 +9,7 @@ use Rattle.delivery.proofs.area_bytes.Goals as goal
 pub overflow_mul-result : goal.overflow_mul-result
 overflow_mul-result c =
     let product : c.power.result * c.wide.result ≡ 2 ^ c.args.g.n * c.args.g.r =
-        rw (c.power.ensures, c.wide.ensures) in
+    rw (c.power.ensures, c.wide.ensures) in
     record { fits = rw product (area_fits (limits→allowed c.args.g c.requires)) }
 
 pub power-requires : goal.power-requires

@@ -1,8 +1,7 @@
 -- `lists::bits_for` meets its contract: a search that has passed every number below n. Assumes nothing.
-use mathlib.Core.Path.{◌≡◌, refl, sym, ◌∙◌}
-use Prim.Native.Nat.{suc, ◌-◌, ◌≤◌, ◌^◌}
+use mathlib.Core.Path.{refl, sym, ◌∙◌}
+use Prim.Native.Nat.{suc, ◌^◌}
 use native.Mathlib.Omega.{arith}
-use borrow.Author.Rules.{rules}
 use borrow.Author.Tests.{le-leb, eq-eqb, ne_eqb}
 use Rattle.bank.specs.Limits.{ROWS}
 use Rattle.algebra.specs.Search.{least, least_from}

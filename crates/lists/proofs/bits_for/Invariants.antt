@@ -1,12 +1,8 @@
 -- `lists::bits_for` meets its contract: a search that has passed every number below n. Assumes nothing.
-use mathlib.Core.Path.{◌≡◌, refl, sym, ◌∙◌}
-use Prim.Native.Nat.{suc, ◌-◌, ◌≤◌, ◌^◌}
-use native.Mathlib.Omega.{arith}
-use borrow.Author.Rules.{rules}
-use borrow.Author.Tests.{le-leb, eq-eqb, ne_eqb}
+use mathlib.Core.Path.{◌≡◌}
+use Prim.Native.Nat.{suc, ◌-◌, ◌≤◌}
 use Rattle.bank.specs.Limits.{ROWS}
-use Rattle.algebra.specs.Search.{least, least_from}
-use Rattle.algebra.proofs.Search.{found_here, found_later, found_none}
+use Rattle.algebra.specs.Search.{least_from}
 use Rattle.lists.specs.Targets.{is_power, bits_for}
 use Rattle.lists.proofs.bits_for.Given as goal
 

@@ -10,31 +10,19 @@ use Rattle.algebra.specs.Search.{any_below}
 use Rattle.order.proofs.Judged.{by_row, by_complement, by_place}
 use Rattle.order.proofs.bad_form.Goals as goal
 
-pub stray-requires : goal.stray-requires
-stray-requires c = let long : length c.args.order.rows ≡ ROWS = search rules in omega arith
-
 pub returns-then-stray : goal.returns-then-stray
 returns-then-stray c =
-    let s = c in
-    sym (by_row s.args.order _ s.power-size.ensures _ s.stray.ensures c.if-stray.true)
+    sym (by_row c.args.order _ c.power-size.ensures _ c.stray.ensures c.if-stray.true)
 
 pub returns-then-size-wide : goal.returns-then-size-wide
 returns-then-size-wide c =
-    let s = c in
-    sym (by_complement s.args.order _ s.power-size.ensures _ s.stray.ensures
+    sym (by_complement c.args.order _ c.power-size.ensures _ c.stray.ensures
     c.if-stray.false (omega (arith, c.wide.ensures)))
-
-pub spare-requires : goal.spare-requires
-spare-requires c =
-    let s = c in
-    let long : length s.args.order.rows ≡ ROWS = search rules in
-    omega arith
 
 pub returns : goal.returns
 returns c =
     let order = c.args.order in
     let long : length order.rows ≡ ROWS = search rules in
-    let s = c in
-    sym (by_place order _ s.power-size.ensures _ s.stray.ensures c.if-stray.false
+    sym (by_place order _ c.power-size.ensures _ c.stray.ensures c.if-stray.false
     (omega (arith, c.wide.ensures)) _
     (c.spare.ensures ∙ ap (any_below (λ i. leb order.geometry.n i && not (eqb (get_or order.rows i 0) 0))) long))

@@ -3,7 +3,6 @@ use mathlib.Core.Path.{◌≡◌, ap, ap₂, sym, ◌∙◌}
 use mathlib.Core.Bool.{Bool, not}
 use Prim.Native.Nat.{ℕ}
 use native.Mathlib.Omega.{arith}
-use borrow.Author.Rules.{rules}
 use lib.Dec.{eqb}
 use Rattle.bank.specs.Checks.{refuse}
 use Rattle.bank.proofs.Limits.{limits→allowed}
@@ -24,18 +23,17 @@ returns-then-number-ne0 c =
 pub kernel-z-requires : goal.kernel-z-requires
 kernel-z-requires c =
     let formed : form_number c.args.order ≡ 0 =
-        sym c.form_number-number.ensures ∙ c.if-number-ne0.false in
+    sym c.form_number-number.ensures ∙ c.if-number-ne0.false in
     (limits→allowed _ (form_none _ formed).0).n_high
 
 pub returns : goal.returns
 returns c =
     let formed : form_number c.args.order ≡ 0 =
-        sym c.form_number-number.ensures ∙ c.if-number-ne0.false in
-    let i = c in
-    let order = i.args.order in
+    sym c.form_number-number.ensures ∙ c.if-number-ne0.false in
+    let order = c.args.order in
     let k = c.kernel-z.ensures in
-    let formed = judgement_formed order formed in
+    let judged = judgement_formed order formed in
     let three = c.refuse.ensures ∙ ap (λ (z : ℕ). refuse (not (eqb z 0)) 3 0) k
     ∙ ap (λ (t : Bool). refuse t 3 0) (kernel_tells order.geometry.n (matrix_of order)) in
-    let z = ap (λ (k : ℕ). z_with k order) formed ∙ formed_z order 0 (λ e. omega (arith, e)) in
-    ap₂ {C = Verdict} (λ (k z : ℕ). record { number = k; z = record { 0 = z } }) (three ∙ sym formed) (c.wide.ensures ∙ k ∙ sym z)
+    let z = ap (λ (k : ℕ). z_with k order) judged ∙ formed_z order 0 (λ e. omega (arith, e)) in
+    ap₂ {C = Verdict} (λ (k z : ℕ). record { number = k; z = record { 0 = z } }) (three ∙ sym judged) (c.wide.ensures ∙ k ∙ sym z)

@@ -1,7 +1,7 @@
 -- `rounds::erases` meets its contract. The loop's invariant: e holds the columns of E before j, and the identity's from j on. Assumes nothing.
-use mathlib.Core.Path.{◌∙◌, ◌≡◌, ap}
+use mathlib.Core.Path.{◌∙◌, ap}
 use mathlib.Core.List.{List, ◌++◌}
-use Prim.Native.Nat.{◌%◌, ◌*◌, ◌-◌, ◌/◌, ◌^◌, ◌≤◌, ℕ}
+use Prim.Native.Nat.{◌%◌, ◌*◌, ◌-◌, ◌/◌, ◌^◌, ℕ}
 use native.Mathlib.Omega.{arith}
 use lib.Bits.{bit_xor}
 use lib.ListN.{get_or, replicate, take}
@@ -10,9 +10,8 @@ use Rattle.bank.specs.Limits.{ROWS}
 use Rattle.elimination.specs.Echelon.{echelon_of}
 use Rattle.algebra.proofs.Built.{built_count}
 use Rattle.algebra.specs.Vector.{WORD}
-use Rattle.planning.specs.Columns.{adding}
 use Rattle.planner.proofs.Lower.{delta-lower}
-use Rattle.rounds.proofs.Erasing.{column_erased, erased, erased_all, erased_more, erased_none, phi_there}
+use Rattle.rounds.proofs.Erasing.{column_erased, erased_all, erased_more, erased_none, phi_there}
 use Rattle.rounds.proofs.erases.Goals as goal
 
 pub loop-j-init : goal.loop-j-init
@@ -30,8 +29,7 @@ reduce-r-requires c =
 
 pub loop-j-preserved : goal.loop-j-preserved
 loop-j-preserved c =
-    let s = c in
-    let a = s.args in
+    let a = c.args in
     let cols = take a.n a.cols.now in
     let lower = c.lower-delta in
     let e = c.eliminate-entries in
@@ -41,7 +39,7 @@ loop-j-preserved c =
     let v = get_or a.cols.now l.j 0 / 2 ^ a.m in
     let tail : List ℕ = replicate (ROWS - (a.n - a.m)) 0 in
     let column =
-    column_erased ROWS a.n a.b a.m (omega arith) (omega arith) (omega arith) cols s.requires.3 l.j (search rules) (search rules)
+    column_erased ROWS a.n a.b a.m (omega arith) (omega arith) (omega arith) cols c.requires.3 l.j (search rules) (search rules)
     lower.result tail (lower.ensures ∙ ap (λ (t : List ℕ). t ++ tail) (delta-lower a.n a.m a.cols.now)) (echelon_of e.result) e.ensures
     power.result v r.result.tag power.ensures (phi_there a.m a.n l.j a.cols.now (omega arith) (search rules)) r.ensures.1 in (
       search rules,

@@ -1,8 +1,6 @@
 -- `rounds::next_zero` meets its contract. The loop's invariant: the search from y on finds what the whole one does. Assumes nothing.
-use mathlib.Core.Path.{◌∙◌, ◌≡◌, refl, sym}
-use Prim.Native.Nat.{◌-◌, ◌≤◌}
+use mathlib.Core.Path.{◌∙◌, sym}
 use borrow.Author.Rules.{rules}
-use Rattle.algebra.specs.Search.{least_from}
 use Rattle.algebra.proofs.Search.{found_here, found_later, found_none}
 use Rattle.planning.specs.Columns.{phi, zero_column}
 use Rattle.rounds.proofs.next_zero.Goals as goal
@@ -25,6 +23,3 @@ returns c =
     let a = c.args in
     let l = c.loop-y in
     found_none (zero_column (phi a.m a.cols.now)) a.m l.y (search rules) ∙ sym l.invariant.1
-
-pub loop-y-init : goal.loop-y-init
-loop-y-init c = (search rules, refl)

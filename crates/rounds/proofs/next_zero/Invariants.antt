@@ -1,9 +1,7 @@
 -- `rounds::next_zero` meets its contract. The loop's invariant: the search from y on finds what the whole one does. Assumes nothing.
-use mathlib.Core.Path.{◌∙◌, ◌≡◌, refl, sym}
+use mathlib.Core.Path.{◌≡◌}
 use Prim.Native.Nat.{◌-◌, ◌≤◌}
-use borrow.Author.Rules.{rules}
 use Rattle.algebra.specs.Search.{least_from}
-use Rattle.algebra.proofs.Search.{found_here, found_later, found_none}
 use Rattle.planning.specs.Columns.{phi, zero_column}
 use Rattle.rounds.proofs.next_zero.Given as goal
 

@@ -1,17 +1,10 @@
 -- `rounds::swaps` meets its contract. The loop's invariant: the nonzero columns below x have changed places with as many zero columns of b..y-1.
 -- Assumes nothing.
-use mathlib.Core.Path.{◌∙◌, ap, sym}
-use mathlib.Core.Bool.{Bool, not}
-use mathlib.Core.List.{List, ◌++◌}
-use mathlib.Core.Logic.{⊎_elim}
-use Prim.Native.Nat.{◌+◌, ◌-◌, ◌≤◌, ℕ}
-use native.Mathlib.Omega.{arith}
-use lib.ListN.{replicate, set}
-use borrow.Author.Rules.{rules}
+use mathlib.Core.Bool.{not}
+use Prim.Native.Nat.{◌-◌, ◌≤◌}
 use Rattle.bank.specs.Limits.{ROWS}
-use Rattle.algebra.proofs.Search.{from}
 use Rattle.planning.specs.Columns.{phi, zero_column}
-use Rattle.rounds.proofs.Swapping.{Exchanged, exchanged_all, exchanged_more, exchanged_none, exchanged_out, exchanged_same, exchanged_skip, swaps_are}
+use Rattle.rounds.proofs.Swapping.{Exchanged}
 use Rattle.rounds.proofs.swaps.Given as goal
 
 abbrev pub invariant-loop-x : goal.invariant-loop-x

@@ -31,14 +31,14 @@ pub overflow_mul-value : goal.overflow_mul-value
 overflow_mul-value c =
     let l = c.loop-i in
     let value_small : l.value < 10 ^ DIGITS =
-        read_small c.args.word.now l.i l.value l.invariant (omega arith) in
+    read_small c.args.word.now l.i l.value l.invariant (omega arith) in
     omega arith
 
 pub overflow_add-value : goal.overflow_add-value
 overflow_add-value c =
     let l = c.loop-i in
     let value_small : l.value < 10 ^ DIGITS =
-        read_small c.args.word.now l.i l.value l.invariant (omega arith) in
+    read_small c.args.word.now l.i l.value l.invariant (omega arith) in
     omega arith
 
 pub loop-i-preserved : goal.loop-i-preserved

@@ -24,7 +24,7 @@ loop-k-init c =
 pub loop-k-preserved : goal.loop-k-preserved
 loop-k-preserved c =
     let in_memory : c.loop-k.place * c.args.r + c.args.r ≤ length c.args.memory.now =
-        subst (λ (n : ℕ). n * c.args.r + c.args.r ≤ length c.args.memory.now) (sym c.loop-k.invariant.4)
+    subst (λ (n : ℕ). n * c.args.r + c.args.r ≤ length c.args.memory.now) (sym c.loop-k.invariant.4)
     (c.requires.by_index c.loop-k.k c.loop-k-test.true) in
     let l = c.loop-k in
     let x = c.args in (

@@ -18,7 +18,7 @@ use Rattle.blocks.proofs.moves.write_step.Goals as goal
 pub overflow_mul-first : goal.overflow_mul-first
 overflow_mul-first c =
     let ok : Allowed c.args.t.geometry =
-        limits→allowed c.args.t.geometry c.requires.in_load_lem.inside in
+    limits→allowed c.args.t.geometry c.requires.in_load_lem.inside in
     record { fits = rw c.power.ensures (omega (arith, load_lt c.requires.in_load_lem, records_fit ok)) }
 
 pub goes_to-goes-requires : goal.goes_to-goes-requires
@@ -27,10 +27,10 @@ goes_to-goes-requires c = (c.requires.in_load_lem.inside, rw c.power.ensures (lo
 pub write_drives-requires : goal.write_drives-requires
 write_drives-requires c =
     let ok : Allowed c.args.t.geometry =
-        limits→allowed c.args.t.geometry c.requires.in_load_lem.inside in
+    limits→allowed c.args.t.geometry c.requires.in_load_lem.inside in
     let goes_is : c.goes_to-goes.result.0
     ≡ target (pass_for c.args.t).rows c.args.t.complement (c.args.load * memory_size c.args.t.geometry) =
-        rw c.power.ensures at c.goes_to-goes.ensures in
+    rw c.power.ensures at c.goes_to-goes.ensures in
     let place = c.first_place-place.ensures in
     let first = c.first_block-block.ensures in
     rw (c.power-2.ensures, c.power-3.ensures) record {
@@ -44,7 +44,7 @@ pub returns : goal.returns
 returns c =
     let goes_is : c.goes_to-goes.result.0
     ≡ target (pass_for c.args.t).rows c.args.t.complement (c.args.load * memory_size c.args.t.geometry) =
-        rw c.power.ensures at c.goes_to-goes.ensures in
+    rw c.power.ensures at c.goes_to-goes.ensures in
     c.write_drives.ensures
     ∙ rw (c.power-2.ensures, c.power-3.ensures)
     (write_is c.requires goes_is c.first_place-place.ensures c.first_block-block.ensures)

@@ -18,7 +18,7 @@ loop-i-preserved c =
     let d = c.bit_of-d in (
       search rules,
       rest_once _ _ _ _ _ _ _ l.invariant.1 d.ensures c.unless_zero-u.ensures,
-      used_once _ _ _ _ _ _ _ l.invariant.1 d.ensures a.e.tags _ a.t l.invariant.2 c.unless_zero-s.ensures,
+      used_once _ _ _ _ _ _ _ l.invariant.1 d.ensures a.e.tags _ a.t l.invariant.2 (search rules),
     )
 
 pub returns : goal.returns

@@ -1,10 +1,8 @@
 -- `lists::apart::apart_here` meets its contract: the bits of the first i differences. Assumes nothing.
-use mathlib.Core.Path.{◌≡◌, refl, ap, ◌∙◌}
-use Prim.Native.Nat.{◌-◌, ◌≤◌}
+use mathlib.Core.Path.{refl}
 use native.Mathlib.Omega.{arith}
-use borrow.Author.Rules.{rules}
 use lib.Bits.{bit_xor}
-use lib.ListN.{get_or, length}
+use lib.ListN.{get_or}
 use Rattle.lists.specs.Apart.{all_bits}
 use Rattle.lists.proofs.AllBits.{all-bits_next}
 use Rattle.lists.proofs.apart.apart_here.Goals as goal
@@ -18,10 +16,3 @@ loop-i-preserved c =
     let s = c.args in
     let l = c.loop-i in
     (omega arith, all-bits_next (λ i. bit_xor (get_or s.part.now i 0) (bit_xor (get_or s.low.now i 0) s.change)) l.i l.off l.invariant.1)
-
-pub returns : goal.returns
-returns c =
-    let s = c.args in
-    let l = c.loop-i in
-    let all : l.i ≡ length s.part.now = omega arith in
-    l.invariant.1 ∙ ap (all_bits (λ i. bit_xor (get_or s.part.now i 0) (bit_xor (get_or s.low.now i 0) s.change))) all

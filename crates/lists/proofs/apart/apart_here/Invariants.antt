@@ -1,12 +1,9 @@
 -- `lists::apart::apart_here` meets its contract: the bits of the first i differences. Assumes nothing.
-use mathlib.Core.Path.{◌≡◌, refl, ap, ◌∙◌}
+use mathlib.Core.Path.{◌≡◌}
 use Prim.Native.Nat.{◌-◌, ◌≤◌}
-use native.Mathlib.Omega.{arith}
-use borrow.Author.Rules.{rules}
 use lib.Bits.{bit_xor}
 use lib.ListN.{get_or, length}
 use Rattle.lists.specs.Apart.{all_bits}
-use Rattle.lists.proofs.AllBits.{all-bits_next}
 use Rattle.lists.proofs.apart.apart_here.Given as goal
 
 abbrev pub invariant-loop-i : goal.invariant-loop-i

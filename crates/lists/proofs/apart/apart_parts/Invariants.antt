@@ -1,19 +1,11 @@
 -- `lists::apart::apart_parts` meets its contract: the parts before q are looked at, and the change is part q's. Assumes nothing.
-use mathlib.Core.Path.{◌≡◌, refl, sym, ap, ap₂, ◌∙◌}
-use Prim.Native.Nat.{ℕ, ◌+◌, ◌-◌, ◌*◌, ◌≤◌, ◌<◌, ◌^◌, zero-le}
-use native.Mathlib.Nat.{suc-mul, zero-mul}
-use native.Mathlib.Numerals.{add-one}
-use native.Mathlib.Omega.{arith}
-use borrow.Author.Rules.{rules}
-use lib.Bits.{bit_xor, xor_lt}
-use lib.Dec.{lit<}
-use lib.ListN.{length, length-take, drop}
+use mathlib.Core.Path.{◌≡◌}
+use Prim.Native.Nat.{◌-◌, ◌*◌, ◌≤◌, ◌<◌, ◌^◌}
+use lib.ListN.{length}
 use Rattle.algebra.specs.Vector.{WORD}
 use Rattle.algebra.specs.Carry.{place_by}
-use Rattle.algebra.proofs.Carry.{place_next, place_zero}
-use Rattle.algebra.proofs.Digits.{share}
 use Rattle.lists.specs.Apart.{all_bits}
-use Rattle.lists.proofs.Parts.{apart_in, part_once}
+use Rattle.lists.proofs.Parts.{apart_in}
 use Rattle.lists.proofs.apart.apart_parts.Given as goal
 
 abbrev pub invariant-loop-q : goal.invariant-loop-q

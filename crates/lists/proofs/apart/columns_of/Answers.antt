@@ -1,27 +1,19 @@
 -- `lists::apart::columns_of` meets its contract: the first j columns are in place. Assumes nothing.
-use mathlib.Core.Path.{◌≡◌, refl, sym, ap₂, ◌∙◌}
-use Prim.Native.Nat.{ℕ, ◌-◌, ◌≤◌, ◌<◌, ◌%◌}
+use mathlib.Core.Path.{◌≡◌, sym, ap₂, ◌∙◌}
+use Prim.Native.Nat.{ℕ, ◌<◌, ◌%◌, ◌^◌}
 use native.Mathlib.Omega.{arith}
-use borrow.Author.Rules.{rules}
 use lib.Bits.{bit_xor}
-use lib.ListN.{get_or, length}
-use lib.Pow.{pow-lt, pow_pos}
+use lib.ListN.{get_or}
+use lib.Pow.{pow-lt}
 use Rattle.bank.specs.Limits.{ROWS}
-use Rattle.algebra.specs.Vector.{WORD}
-use Rattle.matrix.proofs.Filled.{filled, filled_all, filled_next}
+use Rattle.matrix.proofs.Filled.{filled_all, filled_next}
 use Rattle.lists.specs.Apart.{column_of, columns_of}
 use Rattle.lists.proofs.Only.{columns_of_at, columns_of_length}
-use Rattle.lists.proofs.Words.{rest_in_word}
 use Rattle.lists.proofs.apart.columns_of.Goals as goal
 
-pub offset_bounds-list-at : goal.offset_bounds-list-at
-offset_bounds-list-at c = omega (arith, c.power-at.ensures, pow-lt {i = c.loop-j.j} {j = WORD} (omega arith))
-
-pub nonzero_rem-cols : goal.nonzero_rem-cols
-nonzero_rem-cols c = rw c.power-size.ensures (pow_pos c.args.n)
-
-pub overflow_cast-cols : goal.overflow_cast-cols
-overflow_cast-cols c = record { fits = rest_in_word _ _ _ c.power-size.ensures c.requires.0 }
+-- entry 2 ^ j is in the list
+entry_there : (at long j n : ℕ) → at ≡ 2 ^ j → long ≡ 2 ^ n → j < n → at < long
+entry_there at long j n e l h = omega (arith, pow-lt {i = j} {j = n} h)
 
 pub loop-j-preserved : goal.loop-j-preserved
 unfolding column_of
@@ -42,15 +34,5 @@ returns c =
     let long = columns_of_length s.list.now s.n in
     filled_all ROWS (columns_of s.list.now s.n) (omega arith) s.n l.j l.cols long (omega arith) l.invariant.1
 
-pub loop-j-init : goal.loop-j-init
-loop-j-init c = (search rules, refl)
-
 pub bounds-list-at : goal.bounds-list-at
-bounds-list-at c = let entry-there : c.power-at.result < length c.args.list.now =
-        λ = let s = c in omega (arith, c.power-at.ensures, s.requires.1, pow-lt {i = c.loop-j.j} {j. s.args.n} (omega arith)) in
-    entry-there
-
-pub bounds-list-0 : goal.bounds-list-0
-bounds-list-0 c = let entry-there : c.power-at.result < length c.args.list.now =
-        λ = let s = c in omega (arith, c.power-at.ensures, s.requires.1, pow-lt {i = c.loop-j.j} {j. s.args.n} (omega arith)) in
-    omega (arith, entry-there)
+bounds-list-at c = entry_there _ _ c.loop-j.j _ c.power-at.ensures c.requires.1 (omega arith)

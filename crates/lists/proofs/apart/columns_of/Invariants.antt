@@ -1,17 +1,9 @@
 -- `lists::apart::columns_of` meets its contract: the first j columns are in place. Assumes nothing.
-use mathlib.Core.Path.{◌≡◌, refl, sym, ap₂, ◌∙◌}
-use Prim.Native.Nat.{ℕ, ◌-◌, ◌≤◌, ◌<◌, ◌%◌}
-use native.Mathlib.Omega.{arith}
-use borrow.Author.Rules.{rules}
-use lib.Bits.{bit_xor}
-use lib.ListN.{get_or, length}
-use lib.Pow.{pow-lt, pow_pos}
+use mathlib.Core.Path.{◌≡◌}
+use Prim.Native.Nat.{◌-◌, ◌≤◌}
 use Rattle.bank.specs.Limits.{ROWS}
-use Rattle.algebra.specs.Vector.{WORD}
-use Rattle.matrix.proofs.Filled.{filled, filled_all, filled_next}
-use Rattle.lists.specs.Apart.{column_of, columns_of}
-use Rattle.lists.proofs.Only.{columns_of_at, columns_of_length}
-use Rattle.lists.proofs.Words.{rest_in_word}
+use Rattle.matrix.proofs.Filled.{filled}
+use Rattle.lists.specs.Apart.{columns_of}
 use Rattle.lists.proofs.apart.columns_of.Given as goal
 
 abbrev pub invariant-loop-j : goal.invariant-loop-j

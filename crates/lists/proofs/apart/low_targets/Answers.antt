@@ -1,6 +1,5 @@
 -- `lists::apart::low_targets` meets its contract: the first i targets are in place, and y is target i. Assumes nothing.
-use mathlib.Core.Path.{◌≡◌, refl, sym, ap, ap₂, ◌∙◌}
-use Prim.Native.Nat.{◌-◌, ◌≤◌, ◌<◌, ◌^◌}
+use mathlib.Core.Path.{refl, sym, ap, ap₂, ◌∙◌}
 use native.Mathlib.Nat.{zero-add}
 use native.Mathlib.Omega.{arith}
 use borrow.Author.Rules.{rules}
@@ -10,7 +9,7 @@ use Rattle.algebra.specs.Vector.{WORD}
 use Rattle.algebra.specs.Carry.{place_by}
 use Rattle.algebra.proofs.Carry.{place_next, place_zero}
 use Rattle.algebra.proofs.Listed.{listed_at, listed_length}
-use Rattle.matrix.proofs.Filled.{filled, filled_all, filled_next}
+use Rattle.matrix.proofs.Filled.{filled_all, filled_next}
 use Rattle.lists.specs.Apart.{LOW}
 use Rattle.lists.proofs.apart.low_targets.Goals as goal
 
@@ -27,7 +26,7 @@ loop-i-preserved c =
     let here = c.wide.ensures ∙ l.invariant.3 ∙ sym at in (
       omega arith,
       filled_next LOW targets (omega arith) l.i c.wide.result l.low (omega arith) l.invariant.1 here,
-      xor_lt WORD l.y c.flip-y.result l.invariant.2 (omega (arith, c.flip-y.type-inv)),
+      xor_lt WORD l.y c.flip-y.result l.invariant.2 (omega (arith, c.flip-y.type_inv)),
       ap₂ bit_xor l.invariant.3 c.flip-y.ensures ∙ place_next s.base s.columns.now l.i,
     )
 

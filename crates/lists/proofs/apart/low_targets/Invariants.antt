@@ -1,16 +1,10 @@
 -- `lists::apart::low_targets` meets its contract: the first i targets are in place, and y is target i. Assumes nothing.
-use mathlib.Core.Path.{◌≡◌, refl, sym, ap, ap₂, ◌∙◌}
+use mathlib.Core.Path.{◌≡◌}
 use Prim.Native.Nat.{◌-◌, ◌≤◌, ◌<◌, ◌^◌}
-use native.Mathlib.Nat.{zero-add}
-use native.Mathlib.Omega.{arith}
-use borrow.Author.Rules.{rules}
-use lib.Bits.{bit_xor, xor_lt}
 use Rattle.algebra.specs.Search.{listed}
 use Rattle.algebra.specs.Vector.{WORD}
 use Rattle.algebra.specs.Carry.{place_by}
-use Rattle.algebra.proofs.Carry.{place_next, place_zero}
-use Rattle.algebra.proofs.Listed.{listed_at, listed_length}
-use Rattle.matrix.proofs.Filled.{filled, filled_all, filled_next}
+use Rattle.matrix.proofs.Filled.{filled}
 use Rattle.lists.specs.Apart.{LOW}
 use Rattle.lists.proofs.apart.low_targets.Given as goal
 

@@ -9,7 +9,7 @@ use Rattle.mover.proofs.step.lengths_fit.Goals as goal
 pub overflow_mul-area : goal.overflow_mul-area
 overflow_mul-area c =
     let product : c.power.result * c.wide-r.result ≡ 2 ^ c.args.g.n * c.args.g.r =
-        rw (c.power.ensures, c.wide-r.ensures) in
+    rw (c.power.ensures, c.wide-r.ensures) in
     record { fits = rw product (area_fits (limits→allowed c.args.g c.requires)) }
 
 pub overflow_mul-result : goal.overflow_mul-result

@@ -8,5 +8,5 @@ use Rattle.mover.proofs.step.ready_number.Goals as goal
 pub lengths_fit-requires : goal.lengths_fit-requires
 lengths_fit-requires c =
     let can : can_run c.args.plan c.args.state ≡ true =
-        sym c.can_run.ensures ∙ c.if-not-can_run.false in
+    sym c.can_run.ensures ∙ c.if-not-can_run.false in
     let x = c.args in (sound→checked x.plan (can_run→sound x.plan x.state can)).limits

@@ -1,14 +1,9 @@
 -- `order::form::spare` meets its contract: a search that passed only zeros, from n on. Assumes nothing.
-use mathlib.Core.Path.{◌≡◌, ap, sym}
-use mathlib.Core.Bool.{Bool, false, not, ◌&&◌}
+use mathlib.Core.Path.{◌≡◌}
+use mathlib.Core.Bool.{false, not, ◌&&◌}
 use Prim.Native.Nat.{ℕ, ◌≤◌, ◌<◌, ◌-◌}
-use native.Mathlib.Omega.{arith}
-use borrow.Author.Count.{below_more}
-use borrow.Author.Rules.{rules}
-use borrow.Author.Tests.{le-leb, lt-leb, eq-eqb, ne_eqb}
 use lib.Dec.{eqb, leb}
 use lib.ListN.{get_or, length}
-use Rattle.algebra.proofs.Search.{any_intro, none_intro}
 use Rattle.order.proofs.form.spare.Given as goal
 
 abbrev pub invariant-loop-i : goal.invariant-loop-i

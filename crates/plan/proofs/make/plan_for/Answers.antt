@@ -2,7 +2,6 @@
 use mathlib.Core.Path.{◌∙◌, sym}
 use native.Mathlib.Omega.{arith}
 use lib.ListN.{take}
-use borrow.Author.Rules.{rules}
 use Rattle.bank.proofs.Limits.{limits→allowed}
 use Rattle.plan.proofs.Making.{plan_none, plan_some}
 use Rattle.plan.proofs.make.plan_for.Goals as goal
@@ -12,12 +11,10 @@ is_still-requires c = let k = limits→allowed _ c.requires.0 in omega (arith, k
 
 pub returns-then-is_still : goal.returns-then-is_still
 returns-then-is_still c =
-    let t = c in
-    let a = t.args in
-    c.no_passes.ensures ∙ plan_none a.g (take a.g.n a.t2) a.c a.blanks (sym t.is_still.ensures ∙ t.if-is_still.true)
+    let a = c.args in
+    c.no_passes.ensures ∙ plan_none a.g (take a.g.n a.rows) a.c a.blanks (sym c.is_still.ensures ∙ c.if-is_still.true)
 
 pub returns : goal.returns
 returns c =
-    let t = c in
-    let a = t.args in
-    c.plan_made.ensures ∙ plan_some a.g (take a.g.n a.t2) a.c a.blanks (sym t.is_still.ensures ∙ t.if-is_still.false)
+    let a = c.args in
+    c.plan_made.ensures ∙ plan_some a.g (take a.g.n a.rows) a.c a.blanks (sym c.is_still.ensures ∙ c.if-is_still.false)

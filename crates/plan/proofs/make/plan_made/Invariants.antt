@@ -1,12 +1,7 @@
 -- `plan::make::plan_made` meets its contract: each iteration stores one of the passes that are to come, and the last call what is left. Assumes nothing.
-use mathlib.Core.Path.{◌∙◌, ◌≡◌, sym}
 use Prim.Native.Nat.{◌-◌}
-use native.Mathlib.Omega.{arith}
-use lib.ListN.{length, take}
-use borrow.Author.Rules.{rules}
-use Rattle.bank.specs.Limits.{ROWS}
-use Rattle.bank.proofs.Limits.{limits→allowed}
-use Rattle.plan.proofs.Making.{Making, ahead, make_end, make_goes, make_room, make_start, make_once, make_whole}
+use lib.ListN.{take}
+use Rattle.plan.proofs.Making.{Making, ahead}
 use Rattle.plan.proofs.make.plan_made.Given as goal
 
 abbrev pub invariant-loop-cols : goal.invariant-loop-cols

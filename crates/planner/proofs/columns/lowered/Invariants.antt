@@ -1,12 +1,9 @@
 -- `planner::columns::lowered` meets its contract. The loop's invariant: the first i columns are in place. Assumes nothing.
-use mathlib.Core.Path.{◌≡◌, refl, sym}
-use Prim.Native.Nat.{◌+◌, ◌-◌, ◌/◌, ◌^◌, ◌≤◌}
-use native.Mathlib.Omega.{arith}
-use lib.ListN.{get_or, length}
-use borrow.Author.Rules.{rules}
+use mathlib.Core.Path.{◌≡◌}
+use Prim.Native.Nat.{◌-◌, ◌≤◌}
 use Rattle.bank.specs.Limits.{ROWS}
-use Rattle.matrix.proofs.Filled.{filled, filled_all, filled_next}
-use Rattle.planner.proofs.Lower.{lower_part, lower_at, lower-length}
+use Rattle.matrix.proofs.Filled.{filled}
+use Rattle.planner.proofs.Lower.{lower_part}
 use Rattle.planner.proofs.columns.lowered.Given as goal
 
 abbrev pub invariant-loop-i : goal.invariant-loop-i

@@ -1,7 +1,6 @@
 -- `planner::marks::bare` meets its contract: each return is one case of the definition. Assumes nothing.
 use mathlib.Core.Path.{ap, sym}
 use native.Mathlib.Omega.{arith}
-use borrow.Author.Rules.{rules}
 use Rattle.algebra.specs.Matrix.{one_if}
 use Rattle.planner.proofs.Masks.{bare_high, bare_low, bare_one}
 use Rattle.planner.proofs.marks.bare.Goals as goal

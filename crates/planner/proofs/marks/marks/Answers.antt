@@ -1,11 +1,10 @@
 -- `planner::marks::marks` meets its contract. The loop's invariant: the entries and the marks after j columns. Assumes nothing.
-use mathlib.Core.Path.{◌∙◌, ◌≡◌, ap, ap₂, refl}
-use Prim.Native.Nat.{◌-◌, ◌<◌, ◌^◌, ◌≤◌, ℕ}
+use mathlib.Core.Path.{◌∙◌, ap, ap₂, refl}
+use Prim.Native.Nat.{◌<◌, ◌^◌, ℕ}
 use native.Mathlib.Omega.{arith}
 use lib.Bits.{bit_xor}
 use lib.ListN.{get_or}
-use mir.Syntax.{w32}
-use borrow.Author.Rules.{elem_Fits, rules}
+use borrow.Author.Rules.{rules}
 use Rattle.bank.specs.Limits.{ROWS}
 use Rattle.algebra.specs.Elimination.{built}
 use Rattle.algebra.specs.Matrix.{marked}
@@ -35,10 +34,9 @@ grow-e-requires c =
 
 pub loop-j-preserved : goal.loop-j-preserved
 loop-j-preserved c =
-    let s = c in
     let l = c.loop-j in
-    let cols = s.args.cols in
-    let fits : (i : ℕ) → get_or cols i 0 < 2 ^ WORD = λ i. (elem_Fits w32 w32 cols s.well-formed.0.0 i s.well-formed.0.1.1 tt).fits in
+    let cols = c.args.cols in
+    let fits : (i : ℕ) → get_or cols i 0 < 2 ^ WORD = λ i. search rules in
     let r = c.reduce-r in
     let e = echelon_of l.e in
     let same = left_marked ROWS cols WORD (search rules) fits l.j (omega arith) e l.invariant.1 r.result.left r.ensures.0 (2 ^ l.j) in (
@@ -47,10 +45,3 @@ loop-j-preserved c =
       ap₂ bit_xor l.invariant.2 (c.unless_zero-set.ensures ∙ ap (unless_zero r.result.left) c.power.ensures)
           ∙ mask_next (marked cols) l.j r.result.left same,
     )
-
-pub returns : goal.returns
-returns c =
-    let s = c in
-    let l = c.loop-j in
-    let all : l.j ≡ s.args.k = omega arith in
-    l.invariant.2 ∙ ap (mask_of (marked s.args.cols)) all

@@ -1,20 +1,11 @@
 -- `planner::marks::marks` meets its contract. The loop's invariant: the entries and the marks after j columns. Assumes nothing.
-use mathlib.Core.Path.{◌∙◌, ◌≡◌, ap, ap₂, refl}
-use Prim.Native.Nat.{◌-◌, ◌<◌, ◌^◌, ◌≤◌, ℕ}
-use native.Mathlib.Omega.{arith}
-use lib.Bits.{bit_xor}
-use lib.ListN.{get_or}
-use mir.Syntax.{w32}
-use borrow.Author.Rules.{elem_Fits, rules}
+use mathlib.Core.Path.{◌≡◌}
+use Prim.Native.Nat.{◌-◌, ◌≤◌}
 use Rattle.bank.specs.Limits.{ROWS}
 use Rattle.algebra.specs.Elimination.{built}
 use Rattle.algebra.specs.Matrix.{marked}
-use Rattle.algebra.specs.Vector.{WORD, unless_zero}
-use Rattle.algebra.proofs.Built.{built_count, built_next}
 use Rattle.elimination.specs.Echelon.{echelon_of}
 use Rattle.planner.specs.Marks.{mask_of}
-use Rattle.planner.proofs.Marked.{left_marked}
-use Rattle.planner.proofs.Masks.{mask_next}
 use Rattle.planner.proofs.marks.marks.Given as goal
 
 abbrev pub invariant-loop-j : goal.invariant-loop-j

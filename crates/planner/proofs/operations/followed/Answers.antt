@@ -1,36 +1,23 @@
 -- `planner::operations::followed` meets its contract. The loop's invariant: the first i of the second list are in place. Assumes nothing.
 use mathlib.Core.Path.{◌∙◌, ◌≡◌, ap, sym}
 use mathlib.Core.List.{◌++◌}
-use Prim.Native.Nat.{◌+◌, ◌-◌, ◌≤◌}
+use Prim.Native.Nat.{◌+◌}
 use native.Mathlib.Omega.{arith}
 use lib.ListN.{get_or, take}
 use borrow.Author.Rules.{rules}
 use Rattle.bank.specs.Limits.{ROWS}
-use Rattle.matrix.proofs.Filled.{filled, filled_all, filled_next}
-use Rattle.planner.proofs.Followed.{followed_at, followed_length, followed_start}
+use Rattle.matrix.proofs.Filled.{filled, filled_next}
+use Rattle.planner.proofs.Followed.{followed_at, followed_length}
 use Rattle.planner.proofs.operations.followed.Goals as goal
-
-pub loop-i-init : goal.loop-i-init
-loop-i-init c =
-    let a = c.args in
-    (search rules, followed_start ROWS a.k a.l a.first a.t3 (omega arith) (omega arith) c.requires.1)
 
 pub loop-i-preserved : goal.loop-i-preserved
 loop-i-preserved c =
     let a = c.args in
     let l = c.loop-i in
-    let list = take a.k a.first ++ take a.l a.t3 in
-    let long = followed_length ROWS a.k a.l a.first a.t3 (omega arith) (omega arith) in
-    let next = sym (followed_at ROWS a.k a.l a.first a.t3 (omega arith) (omega arith) l.i (omega arith)) in
+    let list = take a.k a.first ++ take a.l a.second in
+    let long = followed_length ROWS a.k a.l a.first a.second (omega arith) (omega arith) in
+    let next = sym (followed_at ROWS a.k a.l a.first a.second (omega arith) (omega arith) l.i (omega arith)) in
     let place : a.k + l.i + 1 ≡ a.k + (l.i + 1) = omega arith in (
       search rules,
-      filled_next ROWS list (omega arith) (a.k + l.i) (get_or a.t3 l.i 0) l.both (omega arith) l.invariant.1 next ∙ ap (filled ROWS list) place,
+      filled_next ROWS list (omega arith) (a.k + l.i) (get_or a.second l.i 0) l.both (omega arith) l.invariant.1 next ∙ ap (filled ROWS list) place,
     )
-
-pub returns : goal.returns
-returns c =
-    let a = c.args in
-    let l = c.loop-i in
-    let list = take a.k a.first ++ take a.l a.t3 in
-    let long = followed_length ROWS a.k a.l a.first a.t3 (omega arith) (omega arith) in
-    filled_all ROWS list (omega arith) (a.k + a.l) (a.k + l.i) l.both long (omega arith) l.invariant.1

@@ -1,13 +1,10 @@
 -- `planner::operations::followed` meets its contract. The loop's invariant: the first i of the second list are in place. Assumes nothing.
-use mathlib.Core.Path.{◌∙◌, ◌≡◌, ap, sym}
+use mathlib.Core.Path.{◌≡◌}
 use mathlib.Core.List.{◌++◌}
 use Prim.Native.Nat.{◌+◌, ◌-◌, ◌≤◌}
-use native.Mathlib.Omega.{arith}
-use lib.ListN.{get_or, take}
-use borrow.Author.Rules.{rules}
+use lib.ListN.{take}
 use Rattle.bank.specs.Limits.{ROWS}
-use Rattle.matrix.proofs.Filled.{filled, filled_all, filled_next}
-use Rattle.planner.proofs.Followed.{followed_at, followed_length, followed_start}
+use Rattle.matrix.proofs.Filled.{filled}
 use Rattle.planner.proofs.operations.followed.Given as goal
 
 abbrev pub invariant-loop-i : goal.invariant-loop-i

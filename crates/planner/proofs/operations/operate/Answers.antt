@@ -1,7 +1,6 @@
 -- `planner::operations::operate` meets its contract: the products are those of the definition of P. Assumes nothing.
 use Prim.Native.Nat.{◌-◌}
 use lib.ListN.{replicate}
-use borrow.Author.Rules.{rules}
 use Rattle.bank.specs.Limits.{ROWS}
 use Rattle.planner.proofs.Steps.{operate_code}
 use Rattle.planner.proofs.operations.operate.Goals as goal

@@ -1,7 +1,7 @@
 -- `planner::operations::paired` meets its contract. The loop's invariant: the first j columns are in place, and the others still get theirs of what is left.
 -- Assumes nothing.
 use mathlib.Core.Path.{◌∙◌, ◌≡◌, ap, ap₂, refl, subst, sym}
-use Prim.Native.Nat.{◌+◌, ◌-◌, ◌/◌, ◌<◌, ◌^◌, ◌≤◌, ℕ}
+use Prim.Native.Nat.{◌+◌, ◌-◌, ◌/◌, ◌<◌, ◌^◌, ℕ}
 use native.Mathlib.Nat.{sub-zero}
 use native.Mathlib.Omega.{arith}
 use lib.Bits.{bit_xor}
@@ -10,18 +10,15 @@ use borrow.Author.Rules.{rules}
 use Rattle.bank.specs.Limits.{ROWS}
 use Rattle.algebra.specs.Search.{which}
 use Rattle.algebra.specs.Vector.{unless_zero}
-use Rattle.matrix.proofs.Filled.{filled, filled_all, filled_next}
+use Rattle.matrix.proofs.Filled.{filled_all, filled_next}
 use Rattle.planning.specs.Columns.{adding}
 use Rattle.planning.specs.Making.{partner}
 use Rattle.planner.specs.Marks.{bare, places_of}
 use Rattle.planner.proofs.Pairs.{gets, once_later, once_now, once_small}
 use Rattle.planning.proofs.Acts.{adding-length}
 use Rattle.planner.proofs.Steps.{adding_column}
+use Rattle.planner.proofs.operations.paired.Invariants.{share}
 use Rattle.planner.proofs.operations.paired.Goals as goal
-
--- what each column gets
-abbrev share : ℕ → ℕ → ℕ → ℕ → ℕ
-share set n m = partner (which (bare set m n) n 0) (places_of m (set / 2 ^ (n - m)))
 
 pub loop-j-init : goal.loop-j-init
 loop-j-init c =

@@ -1,22 +1,15 @@
 -- `planner::operations::step1` meets its contract: the columns of φ that are marked behind those of δ are W. Assumes nothing.
 use mathlib.Core.Path.{◌∙◌, ap, sym}
-use mathlib.Core.List.{List, ◌++◌, map}
-use Prim.Native.Nat.{◌-◌, ◌/◌, ◌^◌, ℕ}
+use mathlib.Core.List.{List, ◌++◌}
+use Prim.Native.Nat.{◌-◌, ℕ}
 use native.Mathlib.Omega.{arith}
-use lib.ListN.{drop, replicate, take}
+use lib.ListN.{replicate}
 use borrow.Author.Rules.{rules}
 use Rattle.bank.specs.Limits.{ROWS}
 use Rattle.algebra.specs.Matrix.{marked}
 use Rattle.planner.proofs.Masks.{mask_lt}
-use Rattle.planner.proofs.Steps.{held_filled, step1_code}
+use Rattle.planner.proofs.Steps.{step1_code}
 use Rattle.planner.proofs.operations.step1.Goals as goal
-
-pub followed-both-requires : goal.followed-both-requires
-followed-both-requires c =
-    let a = c.args in
-    let d = c.lower-delta in
-    let k = a.n - a.m in
-    (omega arith, held_filled ROWS k d.result (map (λ v. v / 2 ^ a.m) (take k (drop a.m a.cols.now))) (omega arith) d.type-inv.1.0.1 d.ensures)
 
 pub paired-requires : goal.paired-requires
 paired-requires c =
@@ -33,4 +26,4 @@ returns c =
     c.paired.ensures
     ∙ ap (λ (l : List ℕ). l ++ replicate (ROWS - a.n) 0)
     (sym (step1_code ROWS a.n a.m (omega arith) (omega arith) a.cols.now d.result f.result both.result set.result
-    d.type-inv.1.0.1 f.type-inv.1.0.1 d.ensures f.ensures both.ensures set.ensures))
+    (search rules) (search rules) d.ensures f.ensures both.ensures set.ensures))

@@ -1,15 +1,13 @@
 -- `planner::operations::step2` meets its contract. The loop's invariant: the first j columns are in place. Assumes nothing.
-use mathlib.Core.Path.{◌∙◌, ◌≡◌, ap₂, refl}
-use Prim.Native.Nat.{◌-◌, ◌≤◌}
+use mathlib.Core.Path.{◌∙◌, ap₂}
 use native.Mathlib.Omega.{arith}
 use lib.Bits.{bit_xor}
 use lib.ListN.{take}
-use mir.Syntax.{w32}
-use borrow.Author.Rules.{elem_Fits, rules}
+use borrow.Author.Rules.{rules}
 use Rattle.bank.specs.Limits.{ROWS}
 use Rattle.algebra.specs.Vector.{unless_zero}
 use Rattle.algebra.proofs.Built.{built_count}
-use Rattle.matrix.proofs.Filled.{filled, filled_all, filled_next}
+use Rattle.matrix.proofs.Filled.{filled_all, filled_next}
 use Rattle.elimination.specs.Echelon.{echelon_of}
 use Rattle.planning.specs.Making.{step2}
 use Rattle.planner.proofs.Steps.{step2_code, step2-length}
@@ -24,8 +22,7 @@ reduce-r-requires c =
 
 pub loop-j-preserved : goal.loop-j-preserved
 loop-j-preserved c =
-    let s = c in
-    let a = s.args in
+    let a = c.args in
     let f = c.lower-phi in
     let set = c.marks-set in
     let e = c.eliminate-e in
@@ -34,8 +31,8 @@ loop-j-preserved c =
     let first = take a.n a.cols.now in
     let long = step2-length a.n a.m first in
     let column =
-    step2_code ROWS a.n a.m (omega (arith, s.requires.0)) (omega (arith, s.requires.1)) a.cols.now f.result set.result (echelon_of e.result)
-    f.type-inv.1.0.1 (λ i. (elem_Fits w32 w32 f.result f.type-inv.0 i f.type-inv.1.1 tt).fits) f.ensures set.ensures e.ensures l.j (omega arith) in (
+    step2_code ROWS a.n a.m (omega (arith, c.requires.0)) (omega (arith, c.requires.1)) a.cols.now f.result set.result (echelon_of e.result)
+    (search rules) (λ i. search rules) f.ensures set.ensures e.ensures l.j (omega arith) in (
       search rules,
       filled_next ROWS (step2 a.n a.m first) (omega arith) l.j (bit_xor c.power.result c.unless_zero.result) l.out
           (omega arith) l.invariant.1
@@ -49,6 +46,3 @@ returns c =
     let first = take a.n a.cols.now in
     let long = step2-length a.n a.m first in
     filled_all ROWS (step2 a.n a.m first) (omega arith) a.n l.j l.out long (omega arith) l.invariant.1
-
-pub loop-j-init : goal.loop-j-init
-loop-j-init c = (search rules, refl)

@@ -28,7 +28,7 @@ pub returns-then-d-gt1 : goal.returns-then-d-gt1
 returns-then-d-gt1 c =
     let read_is : let a = c.args in
     c.digit_at-d.result ≡ digit_at a.text.now (a.at + (c.loop-i.i - 1)) =
-        c.digit_at-d.ensures ∙ ap (digit_at _) (omega arith) in
+    c.digit_at-d.ensures ∙ ap (digit_at _) (omega arith) in
     λ v rest e.
     let k = c in
     let a = k.args in
@@ -50,7 +50,7 @@ pub loop-i-preserved : goal.loop-i-preserved
 loop-i-preserved c =
     let read_is : let a = c.args in
     c.digit_at-d.result ≡ digit_at a.text.now (a.at + (c.loop-i.i - 1)) =
-        c.digit_at-d.ensures ∙ ap (digit_at _) (omega arith) in
+    c.digit_at-d.ensures ∙ ap (digit_at _) (omega arith) in
     let a = c.args in
     let l = c.loop-i in
     let d = c.digit_at-d in

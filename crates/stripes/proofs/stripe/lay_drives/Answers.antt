@@ -15,7 +15,7 @@ loop-q-init c =
 pub loop-q-preserved : goal.loop-q-preserved
 loop-q-preserved c =
     let next : (c.args.first.0 + c.loop-q.q) * c.args.size ≡ c.args.first.0 * c.args.size + c.loop-q.done =
-        omega (arith, add-mul c.args.first.0 c.loop-q.q c.args.size, c.loop-q.invariant.1) in
+    omega (arith, add-mul c.args.first.0 c.loop-q.q c.args.size, c.loop-q.invariant.1) in
     let l = c.loop-q in
     let x = c.args in (
       omega arith,

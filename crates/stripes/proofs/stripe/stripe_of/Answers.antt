@@ -11,31 +11,31 @@ use Rattle.stripes.proofs.stripe.stripe_of.Goals as goal
 pub overflow_mul-size : goal.overflow_mul-size
 overflow_mul-size c =
     let ok : Allowed c.args.g =
-        limits→allowed c.args.g c.requires.0 in
+    limits→allowed c.args.g c.requires.0 in
     record { fits = rw c.power.ensures (size_fits ok) }
 
 pub overflow_mul-place : goal.overflow_mul-place
 overflow_mul-place c =
     let ok : Allowed c.args.g =
-        limits→allowed c.args.g c.requires.0 in
+    limits→allowed c.args.g c.requires.0 in
     record { fits = rw c.power-drives.ensures (stripe_fits ok c.args.tier c.requires.2) }
 
 pub overflow_mul-result : goal.overflow_mul-result
 overflow_mul-result c =
     let ok : Allowed c.args.g =
-        limits→allowed c.args.g c.requires.0 in
+    limits→allowed c.args.g c.requires.0 in
     let x = c.args in
     let first : x.load * 2 ^ (x.g.m - x.g.b) + x.tier * drives x.g < 2 ^ 64 =
-        first_fits ok x.load x.tier c.requires.1 c.requires.2 in
+    first_fits ok x.load x.tier c.requires.1 c.requires.2 in
     record { fits = rw c.power-blocks.ensures (omega (arith, first)) }
 
 pub overflow_add-result : goal.overflow_add-result
 overflow_add-result c =
     let ok : Allowed c.args.g =
-        limits→allowed c.args.g c.requires.0 in
+    limits→allowed c.args.g c.requires.0 in
     let x = c.args in
     let first : x.load * 2 ^ (x.g.m - x.g.b) + x.tier * drives x.g < 2 ^ 64 =
-        first_fits ok x.load x.tier c.requires.1 c.requires.2 in
+    first_fits ok x.load x.tier c.requires.1 c.requires.2 in
     record { fits = rw (c.power-blocks.ensures, c.power-drives.ensures) first }
 
 pub power-drives-requires : goal.power-drives-requires

@@ -15,14 +15,14 @@ use Rattle.tables.proofs.pace.pace_of.Goals as goal
 pub overflow_mul-stripe : goal.overflow_mul-stripe
 overflow_mul-stripe c =
     let ok : Allowed c.args.plan.geometry =
-        limits→allowed c.args.plan.geometry c.requires in
+    limits→allowed c.args.plan.geometry c.requires in
     record { fits = rw (c.power.ensures, c.power-2.ensures) (omega (arith, stripe_small c.args.plan.geometry ok)) }
 
 pub overflow_mul-result : goal.overflow_mul-result
 unfolding tiers
 overflow_mul-result c =
     let ok : Allowed c.args.plan.geometry =
-        limits→allowed c.args.plan.geometry c.requires in
+    limits→allowed c.args.plan.geometry c.requires in
     let g = c.args.plan.geometry in
     let route = route_of c.args.plan in
     let few : tiers g ≤ 2 ^ ROWS = omega (arith, tiers_small ok, records_small g ok) in
@@ -34,7 +34,7 @@ overflow_mul-result c =
 pub overflow_mul-result-2 : goal.overflow_mul-result-2
 overflow_mul-result-2 c =
     let ok : Allowed c.args.plan.geometry =
-        limits→allowed c.args.plan.geometry c.requires in
+    limits→allowed c.args.plan.geometry c.requires in
     let g = c.args.plan.geometry in
     let route = route_of c.args.plan in
     record {

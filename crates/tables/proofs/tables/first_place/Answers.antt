@@ -12,19 +12,19 @@ use Rattle.tables.proofs.tables.first_place.Goals as goal
 pub overflow_mul-start : goal.overflow_mul-start
 overflow_mul-start c =
     let ok : Allowed c.args.t.geometry =
-        limits→allowed c.args.t.geometry c.requires.0 in
+    limits→allowed c.args.t.geometry c.requires.0 in
     record { fits = rw c.power.ensures (stripe_fits ok c.args.tier c.requires.1) }
 
 pub overflow_mul-start-2 : goal.overflow_mul-start-2
 overflow_mul-start-2 c =
     let ok : Allowed c.args.t.geometry =
-        limits→allowed c.args.t.geometry c.requires.0 in
+    limits→allowed c.args.t.geometry c.requires.0 in
     record { fits = rw (c.power.ensures, c.power-2.ensures) (start_fits ok c.args.tier c.requires.1) }
 
 pub overflow_cast-picks : goal.overflow_cast-picks
 overflow_cast-picks c =
     let ok : Allowed c.args.t.geometry =
-        limits→allowed c.args.t.geometry c.requires.0 in
+    limits→allowed c.args.t.geometry c.requires.0 in
     let m = c.args.t.geometry.m in
     let w = xor_lt m _ (c.args.goes.0 % 2 ^ m) (start_lt ok c.args.tier c.requires.1) (mod-lt c.args.goes.0 (pow_pos m)) in
     record {

@@ -1,7 +1,6 @@
 -- `writing::refusal::write_refusal` meets its contract: one line, and room for it. Assumes nothing.
 use mathlib.Core.List.{[], ◌∷◌, ◌++◌}
 use native.Mathlib.Omega.{arith}
-use borrow.Author.Rules.{rules}
 use Rattle.text.proofs.Decimals.{line_short}
 use Rattle.writing.specs.Refusal.{refused_word}
 use Rattle.writing.proofs.Refused.{line-written, other_line, three_line}

@@ -1,9 +1,7 @@
 -- `writing::write::decimal_size` meets its contract: each iteration takes one digit away. Assumes nothing.
-use mathlib.Core.Path.{◌≡◌, ap}
-use Prim.Native.Nat.{◌+◌, ◌≤◌}
+use mathlib.Core.Path.{ap}
 use native.Mathlib.Omega.{arith}
 use lib.ListN.{length}
-use Rattle.text.specs.Lines.{decimal}
 use Rattle.text.proofs.Decimals.{decimal_one, decimal-length, decimal_longer}
 use Rattle.writing.proofs.write.decimal_size.Goals as goal
 

@@ -1,10 +1,8 @@
 -- `writing::write::decimal_size` meets its contract: each iteration takes one digit away. Assumes nothing.
-use mathlib.Core.Path.{◌≡◌, ap}
+use mathlib.Core.Path.{◌≡◌}
 use Prim.Native.Nat.{◌+◌, ◌≤◌}
-use native.Mathlib.Omega.{arith}
 use lib.ListN.{length}
 use Rattle.text.specs.Lines.{decimal}
-use Rattle.text.proofs.Decimals.{decimal_one, decimal-length, decimal_longer}
 use Rattle.writing.proofs.write.decimal_size.Given as goal
 
 abbrev pub invariant-loop-x : goal.invariant-loop-x

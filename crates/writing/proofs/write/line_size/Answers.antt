@@ -1,6 +1,5 @@
 -- `writing::write::line_size` meets its contract: the word, the digits, the line's end. Assumes nothing.
 use native.Mathlib.Omega.{arith}
-use borrow.Author.Rules.{rules}
 use Rattle.text.specs.Lines.{decimal}
 use Rattle.text.proofs.Decimals.{decimal-length, length_word_line}
 use Rattle.writing.proofs.write.line_size.Goals as goal

@@ -1,10 +1,9 @@
 -- `writing::write::put_bits` meets its contract: with i bits left, the characters of those before them stand there. Assumes nothing.
 use mathlib.Core.Path.{◌≡◌, refl, sym, ap, ◌∙◌}
-use Prim.Native.Nat.{ℕ, suc, ◌+◌, ◌-◌, ◌/◌, ◌%◌, ◌≤◌}
+use Prim.Native.Nat.{ℕ, suc, ◌+◌, ◌-◌, ◌/◌, ◌%◌}
 use native.Mathlib.Omega.{arith}
-use lib.ListN.{length, set, length-set}
+use lib.ListN.{set, length-set}
 use Rattle.text.specs.Lines.{bits}
-use Rattle.writing.specs.Written.{Wrote}
 use Rattle.text.proofs.RowLines.{length-bits, shifted, shifted_more, bits_more}
 use Rattle.writing.proofs.Put.{wrote_none, wrote_byte}
 use Rattle.writing.proofs.write.put_bits.Goals as goal

@@ -1,12 +1,10 @@
 -- `writing::write::put_bits` meets its contract: with i bits left, the characters of those before them stand there. Assumes nothing.
-use mathlib.Core.Path.{◌≡◌, refl, sym, ap, ◌∙◌}
-use Prim.Native.Nat.{ℕ, suc, ◌+◌, ◌-◌, ◌/◌, ◌%◌, ◌≤◌}
-use native.Mathlib.Omega.{arith}
-use lib.ListN.{length, set, length-set}
+use mathlib.Core.Path.{◌≡◌}
+use Prim.Native.Nat.{◌+◌, ◌-◌, ◌≤◌}
+use lib.ListN.{length}
 use Rattle.text.specs.Lines.{bits}
 use Rattle.writing.specs.Written.{Wrote}
-use Rattle.text.proofs.RowLines.{length-bits, shifted, shifted_more, bits_more}
-use Rattle.writing.proofs.Put.{wrote_none, wrote_byte}
+use Rattle.text.proofs.RowLines.{shifted}
 use Rattle.writing.proofs.write.put_bits.Given as goal
 
 abbrev pub invariant-loop-i : goal.invariant-loop-i

@@ -2,9 +2,8 @@
 use mathlib.Core.Path.{ap}
 use Prim.Native.Nat.{ℕ, ◌+◌, ◌<◌, ◌≤◌}
 use native.Mathlib.Omega.{arith}
-use borrow.Author.Rules.{rules}
 use lib.ListN.{length, length-set}
-use Rattle.writing.proofs.Digits.{Partly, partly_none, partly_length, partly_inside, partly_more, partly_all}
+use Rattle.writing.proofs.Digits.{partly_none, partly_length, partly_inside, partly_more, partly_all}
 use Rattle.writing.proofs.write.put_decimal.Goals as goal
 
 pub overflow_add-end : goal.overflow_add-end
@@ -16,13 +15,13 @@ loop-x-init c = let a = c.args in partly_none a.room.now a.at a.v _ (ap (λ (k :
 pub overflow_sub-i : goal.overflow_sub-i
 overflow_sub-i c =
     let inside : (c.args.at < c.loop-x.i) × (c.loop-x.i ≤ length c.loop-x.room) =
-        partly_inside c.loop-x.invariant (omega arith) (omega arith) in
+    partly_inside c.loop-x.invariant (omega arith) (omega arith) in
     omega (arith, inside)
 
 pub bounds-room-i : goal.bounds-room-i
 bounds-room-i c =
     let inside : (c.args.at < c.loop-x.i) × (c.loop-x.i ≤ length c.loop-x.room) =
-        partly_inside c.loop-x.invariant (omega arith) (omega arith) in
+    partly_inside c.loop-x.invariant (omega arith) (omega arith) in
     omega (arith, inside)
 
 pub loop-x-preserved : goal.loop-x-preserved
@@ -31,7 +30,7 @@ loop-x-preserved c = partly_more c.loop-x.invariant (omega arith) (omega arith) 
 pub bounds-room-at : goal.bounds-room-at
 bounds-room-at c =
     let inside : (c.args.at < c.loop-x.i) × (c.loop-x.i ≤ length c.loop-x.room) =
-        partly_inside c.loop-x.invariant (omega arith) (omega arith) in
+    partly_inside c.loop-x.invariant (omega arith) (omega arith) in
     omega (arith, inside)
 
 pub shape_of-room : goal.shape_of-room

@@ -1,10 +1,5 @@
 -- `writing::write::put_decimal` meets its contract: what is left of the number and what is written are its digits. Assumes nothing.
-use mathlib.Core.Path.{ap}
-use Prim.Native.Nat.{ℕ, ◌+◌, ◌<◌, ◌≤◌}
-use native.Mathlib.Omega.{arith}
-use borrow.Author.Rules.{rules}
-use lib.ListN.{length, length-set}
-use Rattle.writing.proofs.Digits.{Partly, partly_none, partly_length, partly_inside, partly_more, partly_all}
+use Rattle.writing.proofs.Digits.{Partly}
 use Rattle.writing.proofs.write.put_decimal.Given as goal
 
 abbrev pub invariant-loop-x : goal.invariant-loop-x

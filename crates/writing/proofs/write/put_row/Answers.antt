@@ -1,6 +1,5 @@
 -- `writing::write::put_row` meets its contract: the bits, and then the line's end. Assumes nothing.
 use native.Mathlib.Omega.{arith}
-use borrow.Author.Rules.{rules}
 use Rattle.text.proofs.RowLines.{length-bits}
 use Rattle.writing.proofs.Put.{wrote_fits, wrote_byte}
 use Rattle.writing.proofs.write.put_row.Goals as goal

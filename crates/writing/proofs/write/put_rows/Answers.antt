@@ -1,12 +1,9 @@
 -- `writing::write::put_rows` meets its contract: after i iterations the lines of the first i rows stand there. Assumes nothing.
 use mathlib.Core.Path.{◌≡◌, refl, ◌∙◌}
-use Prim.Native.Nat.{◌-◌, ◌≤◌}
 use native.Mathlib.Omega.{arith}
 use borrow.Author.Rules.{rules}
-use lib.ListN.{length, get_or, take}
-use Rattle.bank.specs.Limits.{ROWS}
+use lib.ListN.{get_or}
 use Rattle.text.specs.Lines.{row_lines}
-use Rattle.writing.specs.Written.{Wrote}
 use Rattle.text.proofs.RowLines.{length-line, rows_share, row_lines_more}
 use Rattle.writing.proofs.Put.{wrote_none, wrote_more, wrote_length}
 use Rattle.writing.proofs.write.put_rows.Goals as goal

@@ -1,11 +1,9 @@
 -- `writing::write::put_word` meets its contract: after i iterations the first i bytes stand there. Assumes nothing.
 use mathlib.Core.Path.{◌≡◌, refl}
-use Prim.Native.Nat.{◌+◌, ◌-◌, ◌≤◌}
 use native.Mathlib.Omega.{arith}
 use native.Mathlib.Numerals.{add-one}
-use lib.ListN.{length, get_or, take, length-set}
+use lib.ListN.{length, get_or, length-set}
 use lib.Seq.{take-suc, take-length, length-take-le}
-use Rattle.writing.specs.Written.{Wrote}
 use Rattle.writing.proofs.Put.{wrote_none, wrote_byte}
 use Rattle.writing.proofs.write.put_word.Goals as goal
 

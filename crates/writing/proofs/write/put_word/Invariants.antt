@@ -1,12 +1,8 @@
 -- `writing::write::put_word` meets its contract: after i iterations the first i bytes stand there. Assumes nothing.
-use mathlib.Core.Path.{◌≡◌, refl}
+use mathlib.Core.Path.{◌≡◌}
 use Prim.Native.Nat.{◌+◌, ◌-◌, ◌≤◌}
-use native.Mathlib.Omega.{arith}
-use native.Mathlib.Numerals.{add-one}
-use lib.ListN.{length, get_or, take, length-set}
-use lib.Seq.{take-suc, take-length, length-take-le}
+use lib.ListN.{length, take}
 use Rattle.writing.specs.Written.{Wrote}
-use Rattle.writing.proofs.Put.{wrote_none, wrote_byte}
 use Rattle.writing.proofs.write.put_word.Given as goal
 
 abbrev pub invariant-loop-i : goal.invariant-loop-i

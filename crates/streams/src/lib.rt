@@ -1,0 +1,62 @@
+// Bytes that come in: a buffer filled from a reader or from a word of the call, and the file that such a word names.
+#![tactic(auto)]
+
+ghost use Rattle.std.specs.Prelude.{◌≤◌, length, take};
+ghost use Rattle.std.specs.Io.KnownBytes.{Consumes};
+
+use std::env::FillError;
+use std::io::{Error, ErrorKind, Read};
+use std::rt::{Env, Files};
+use std::{fs, io, str};
+
+// As many bytes as the longest word of a call that is read.
+pub const WORD: usize = 4096;
+
+// One read, into the front of the buffer: how many bytes came. None come at the end of the input, nor where the read fails.
+fn read_some<R: Read>(reader: &mut R, buf: &mut [u8]) -> usize
+    ensures in_bounds { result ≤ length buf.new }
+    ensures bytes { Consumes (R.remaining reader.old) (R.remaining reader.new) (take result buf.new) }
+{
+    reader.read(buf).unwrap_or(0)
+}
+
+// Reads until the buffer is full, the input ends or a read fails: how many bytes came. What came before a read that fails counts.
+pub fn fill<R: Read>(reader: &mut R, buf: &mut [u8]) -> usize
+    ensures in_bounds { result ≤ length buf.new }
+    ensures bytes { Consumes (R.remaining reader.old) (R.remaining reader.new) (take result buf.new) }
+{
+    let mut done = 0;
+    while done < buf.len() {
+        let came = read_some(reader, &mut buf[done..]);
+        if came == 0 {
+            break;
+        }
+        done += came;
+    }
+    done
+}
+
+// How many words the call has, the program's name among them.
+pub fn word_count<R: Env>(rt: &R) -> usize {
+    for i in 0..usize::MAX {
+        if let Err(FillError::NotPresent) = rt.arg(i, &mut []) {
+            return i;
+        }
+    }
+    usize::MAX
+}
+
+// A word of the call, at the front of the buffer: its length, or 0 where it is missing or longer than the buffer.
+pub fn word<R: Env>(rt: &R, which: usize, buf: &mut [u8]) -> usize
+    ensures { result ≤ length buf.new }
+{
+    rt.arg(which, buf).unwrap_or(0)
+}
+
+// The file of that name. A name that is no text is no file's.
+pub fn open<R: Files>(rt: &R, name: &[u8]) -> io::Result<R::File> {
+    let Ok(path) = str::from_utf8(name) else {
+        return Err(Error::new(ErrorKind::InvalidInput, "file name isn't text"));
+    };
+    fs::open(rt, path)
+}
