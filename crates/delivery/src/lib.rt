@@ -25,7 +25,7 @@ pub enum Delivery {
     NoRoom(u64),
 }
 
-// N.R, the bytes of an area, which are those of a run.
+// N·R, the bytes of an area, which are those of a run.
 fn area_bytes(g: Geometry) -> u64
     requires { in_limits g ≡ true }
     ensures { result ≡ area_bytes g }
@@ -33,7 +33,7 @@ fn area_bytes(g: Geometry) -> u64
     power(g.n) * wide(g.r)
 }
 
-// M.R, the bytes of a memory.
+// M·R, the bytes of a memory.
 fn memory_bytes(g: Geometry) -> u64
     requires { in_limits g ≡ true }
     ensures { result ≡ memory_bytes g }
@@ -43,7 +43,8 @@ fn memory_bytes(g: Geometry) -> u64
 
 // Every step of the order's plan is sent, and the result, where it lies in area 1, goes to area 0; where the spent area is to
 // be blanked, area 1 is spent then too. The order was judged when it was read.
-fn set_in_order(
+fn set_in_order<R: Eprint>(
+    rt: &R,
     order: Order,
     blanks: bool,
     again: u64,
@@ -59,7 +60,7 @@ fn set_in_order(
 {
     let rows = order.rows;
     let plan = plan_for(order.geometry, rows, order.complement, blanks);
-    send_all(plan, again, progress, area0, area1, memory);
+    send_all(rt, plan, again, progress, area0, area1, memory);
     if result_area(plan) == 1 {
         copy_into(area0, area1);
         if blanks {
@@ -69,7 +70,8 @@ fn set_in_order(
 }
 
 // The run in tray order, every step sent so many times more, and the spent area blanked or not; or a refusal, which changes nothing.
-pub fn deliver(
+pub fn deliver<R: Eprint>(
+    rt: &R,
     text: &[u8],
     blanks: bool,
     again: u64,
@@ -100,6 +102,7 @@ pub fn deliver(
         return Delivery::Refused(4, Address(0));
     }
     set_in_order(
+        rt,
         order,
         blanks,
         again,

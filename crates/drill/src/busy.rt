@@ -5,6 +5,7 @@ use bank::{Geometry, ROWS};
 use lessons::next_place;
 use matrix::rows::apply;
 use order::{Order, judge};
+use std::io;
 use writing::refusal::{REFUSAL, write_refusal};
 
 // No row is zero and no two are the same, and yet the third is the sum of the first two.
@@ -39,50 +40,68 @@ fn targets(rows: &[u32; ROWS]) -> [u8; 16] {
 }
 
 // Says who would go to the slot.
-fn look(slots: &[u8; 16], slot: u8) {
-    byte(b"  slot ", slot);
+fn look<R: Print>(rt: &R, slots: &[u8; 16], slot: u8) -> io::Result<()> {
+    byte(rt, b"  slot ", slot)?;
     let first = next_place(slots, slot, 0);
     if 16 <= first {
-        words(b": no address goes there, and it keeps last week's key\n");
-        return;
+        words(
+            rt,
+            b": no address goes there, and it keeps last week's key\n",
+        )?;
+        return Ok(());
     }
     let second = next_place(slots, slot, first + 1);
-    number(b": address ", first as u64);
+    number(rt, b": address ", first as u64)?;
     if second < 16 {
-        number(b" and address ", second as u64);
-        words(b" share it, and one key is lost");
+        number(rt, b" and address ", second as u64)?;
+        words(rt, b" share it, and one key is lost")?;
     }
-    words(b"\n");
+    words(rt, b"\n")
 }
 
-fn look_all(slots: &[u8; 16]) {
+fn look_all<R: Print>(rt: &R, slots: &[u8; 16]) -> io::Result<()> {
     let mut slot = 0u8;
     while slot < 16 {
-        look(slots, slot);
+        look(rt, slots, slot)?;
         slot += 1;
     }
+    Ok(())
 }
 
-pub(crate) fn tell() {
+pub(crate) fn tell<R: Print>(rt: &R) -> io::Result<()> {
     let order = busy();
     let rows = order.rows;
-    words(b"\nLesson 2: the busy matrix\n\n");
-    words(b"The same bank, and an order with ones all over. Column 0 comes first:\n");
-    say::rows(&rows, 4);
-    words(b"No row is zero, and no two rows are the same. But row 0 xor row 1 is row 2.\n");
-    words(b"A mover that followed this order would do this:\n");
+    words(rt, b"\nLesson 2: the busy matrix\n\n")?;
+    words(
+        rt,
+        b"The same bank, and an order with ones all over. Column 0 comes first:\n",
+    )?;
+    say::rows(rt, &rows, 4)?;
+    words(
+        rt,
+        b"No row is zero, and no two rows are the same. But row 0 xor row 1 is row 2.\n",
+    )?;
+    words(rt, b"A mover that followed this order would do this:\n")?;
     let slots = targets(&rows);
-    look_all(&slots);
+    look_all(rt, &slots)?;
     let judged = judge(order);
-    words(b"The proved mover answers: ");
+    words(rt, b"The proved mover answers: ")?;
     let mut line = [0u8; REFUSAL];
     let k = write_refusal(judged.number, judged.z, &mut line);
-    words(&line[..k]);
-    words(b"The order is wrong, and no retry helps.\n");
-    number(b"The second number shows why: address ", judged.z.0);
-    words(b" goes to the slot of address 0, and no smaller address but 0 itself does.\n");
-    number(b"Every address x shares its slot with x xor ", judged.z.0);
+    words(rt, &line[..k])?;
+    words(rt, b"The order is wrong, and no retry helps.\n")?;
+    number(rt, b"The second number shows why: address ", judged.z.0)?;
     words(
+        rt,
+        b" goes to the slot of address 0, and no smaller address but 0 itself does.\n",
+    )?;
+    number(
+        rt,
+        b"Every address x shares its slot with x xor ",
+        judged.z.0,
+    )?;
+    words(
+        rt,
         b", as above. Read both numbers to the site that sent the order: they can try it by hand.\n",
-    );
+    )
 }

@@ -8,65 +8,66 @@ mod late; // late.rt: the first lesson, the late answer
 mod busy; // busy.rt: the second lesson, the busy matrix
 mod round; // round.rt: the question round
 
-use libc::STDERR_FILENO;
 use reading::{read_order, text_room};
+use std::io;
+use std::rt::{Env, Files};
+use streams::{WORD, fill};
 use writing::refusal::{REFUSAL, write_refusal};
 
-fn error(w: &[u8]) {
-    io::write_all(STDERR_FILENO, w);
+// Standard error's handle is `err`: the lines go there as bytes, since a path need not be text.
+fn error<E: Print>(err: &E, w: &[u8]) -> io::Result<()> {
+    err.write_all(w)
 }
 
-fn call() {
-    error(b": drill [ORDER] < ANSWERS, where ORDER is a file with an order text\n");
+fn call<E: Print>(err: &E) -> io::Result<()> {
+    error(
+        err,
+        b": drill [ORDER] < ANSWERS, where ORDER is a file with an order text\n",
+    )
 }
 
 // A round on the order of a text.
-fn question_round(text: &[u8]) {
+fn question_round<R: Input + Print, E: Print>(rt: &R, err: &E, text: &[u8]) -> io::Result<()> {
     let read = read_order(text);
     if read.number != 0 {
         let mut line = [0u8; REFUSAL];
         let k = write_refusal(read.number, read.z, &mut line);
-        error(&line[..k]);
-        return;
+        return error(err, &line[..k]);
     }
-    round::hold(read.order);
+    round::hold(rt, read.order)
 }
 
 // A round on the order in the file that the first word names.
-fn named() {
-    let mut path = io::buffer();
-    let length = os::arg(1, &mut path);
-    let fd = os::open_read(&path[..length]);
-    if fd < 0 {
-        error(&path[..length]);
-        error(b" can't be opened");
-        call();
-        return;
-    }
+fn named<R: Env + Files + Input + Print, E: Print>(rt: &R, err: &E) -> io::Result<()> {
+    let mut path = [0u8; WORD];
+    let length = streams::word(rt, 1, &mut path);
+    let Ok(mut order) = streams::open(rt, &path[..length]) else {
+        error(err, &path[..length])?;
+        error(err, b" can't be opened")?;
+        return call(err);
+    };
     let mut text = text_room();
-    let n = io::read_full(fd, &mut text);
-    libc::close(fd);
-    question_round(&text[..n]);
+    let n = fill(&mut order, &mut text);
+    question_round(rt, err, &text[..n])
 }
 
 // The lessons, and a round on the example bank's order.
-fn lessons(text: &[u8]) {
-    late::tell(text);
-    busy::tell();
-    say::words(b"\nQuestions on the order of lesson 1\n\n");
-    question_round(text);
+fn lessons<R: Input + Print + Eprint, E: Print>(rt: &R, err: &E, text: &[u8]) -> io::Result<()> {
+    late::tell(rt, text)?;
+    busy::tell(rt)?;
+    say::words(rt, b"\nQuestions on the order of lesson 1\n\n")?;
+    question_round(rt, err, text)
 }
 
-fn main() {
-    let count = os::arg_count();
+fn main(rt: HostRuntime) -> io::Result<()> {
+    let err = rt.stderr();
+    let count = streams::word_count(&rt);
     if 2 < count {
-        error(b"too many words");
-        call();
-        return;
+        error(&err, b"too many words")?;
+        return call(&err);
     }
     if count == 2 {
-        named();
-        return;
+        return named(&rt, &err);
     }
-    lessons(b"4 1 1 2 1\n0001\n0010\n0100\n1000\n0000\n");
+    lessons(&rt, &err, b"4 1 1 2 1\n0001\n0010\n0100\n1000\n0000\n")
 }

@@ -4,9 +4,11 @@ use crate::say::{bits, count, number, words};
 use addresses::target_of;
 use bank::{Address, ROWS, power, wide};
 use lessons::{Mark, mark_of};
-use libc::STDIN_FILENO;
 use matrix::vector::bit_of;
 use order::Order;
+use std::io;
+use std::io::Read;
+use streams::fill;
 
 // The longest answer; a longer line is taken in parts.
 const LINE: usize = 80;
@@ -24,20 +26,20 @@ fn code(byte: u8) -> u32 {
     byte as u32
 }
 
-// The next byte of standard input, or 256 at its end.
-fn next_byte() -> u32 {
+// The next byte of the answers, or 256 at their end.
+fn next_byte<I: Read>(answers: &mut I) -> u32 {
     let mut one = [0u8; 1];
-    if io::read_full(STDIN_FILENO, &mut one) == 0 {
+    if fill(answers, &mut one) == 0 {
         return 256;
     }
     code(one[0])
 }
 
-// A line of standard input: its length, or more than a line has at the end of the input.
-fn line(into: &mut [u8; LINE]) -> usize {
+// A line of the answers: its length, or more than a line has at the end of the input.
+fn line<I: Read>(answers: &mut I, into: &mut [u8; LINE]) -> usize {
     let mut n = 0;
     while n < LINE {
-        let b = next_byte();
+        let b = next_byte(answers);
         if b == 10 {
             return n;
         }
@@ -64,84 +66,99 @@ fn is_right(order: Order, x: u32, answer: &[u8; LINE], n: usize) -> bool {
 }
 
 // Bit i of Ax xor c, from the ones that row i and x have in the same place and from bit i of c.
-fn work_out_bit(row: u32, x: u32, complement: u32, y: u32, i: u32, n: u32) {
-    number(b"  bit ", i as u64);
-    words(b": row ");
-    bits(row, n);
-    words(b", address ");
-    bits(x, n);
-    number(b", ones in both ", wide(u32::count_ones(row & x)));
-    number(b", c has ", wide(bit_of(complement, i)));
-    number(b", so ", wide(bit_of(y, i)));
-    words(b"\n");
+fn work_out_bit<R: Print>(
+    rt: &R,
+    row: u32,
+    x: u32,
+    complement: u32,
+    y: u32,
+    i: u32,
+    n: u32,
+) -> io::Result<()> {
+    number(rt, b"  bit ", i as u64)?;
+    words(rt, b": row ")?;
+    bits(rt, row, n)?;
+    words(rt, b", address ")?;
+    bits(rt, x, n)?;
+    number(rt, b", ones in both ", wide(u32::count_ones(row & x)))?;
+    number(rt, b", c has ", wide(bit_of(complement, i)))?;
+    number(rt, b", so ", wide(bit_of(y, i)))?;
+    words(rt, b"\n")
 }
 
 // Ax xor c, bit by bit.
-fn work_out(order: Order, x: u32, y: u32) {
+fn work_out<R: Print>(rt: &R, order: Order, x: u32, y: u32) -> io::Result<()> {
     let rows = order.rows;
     let n = order.geometry.n;
     let mut i = 0;
     while i < ROWS {
         if (i as u32) < n {
-            work_out_bit(rows[i], x, order.complement, y, i as u32, n);
+            work_out_bit(rt, rows[i], x, order.complement, y, i as u32, n)?;
         }
         i += 1;
     }
-    number(b"  address ", x as u64);
-    words(b" goes to ");
-    bits(y, n);
-    number(b", which is ", y as u64);
-    words(b"\n");
+    number(rt, b"  address ", x as u64)?;
+    words(rt, b" goes to ")?;
+    bits(rt, y, n)?;
+    number(rt, b", which is ", y as u64)?;
+    words(rt, b"\n")
 }
 
 // The order, and how a target is worked out.
-fn show(order: Order) {
+fn show<R: Print>(rt: &R, order: Order) -> io::Result<()> {
     let rows = order.rows;
     let n = order.geometry.n;
-    words(b"The rows of A, and c, bit 0 first:\n");
-    say::rows(&rows, n);
-    words(b"  c: ");
-    bits(order.complement, n);
+    words(rt, b"The rows of A, and c, bit 0 first:\n")?;
+    say::rows(rt, &rows, n)?;
+    words(rt, b"  c: ")?;
+    bits(rt, order.complement, n)?;
     words(
+        rt,
         b"\nBit i of the target is 1 where row i and the address have an odd number of ones in both.\n",
-    );
-    words(b"Where c has a 1, it is the other way round.\n");
+    )?;
+    words(rt, b"Where c has a 1, it is the other way round.\n")
 }
 
 // Asks for the target of x, and marks the answer.
-fn ask(order: Order, x: u32) -> Asked {
-    number(b"Where does address ", x as u64);
-    words(b" go?\n");
+fn ask<R: Print, I: Read>(rt: &R, answers: &mut I, order: Order, x: u32) -> io::Result<Asked> {
+    number(rt, b"Where does address ", x as u64)?;
+    words(rt, b" go?\n")?;
     let mut answer = [0u8; LINE];
-    let n = line(&mut answer);
+    let n = line(answers, &mut answer);
     if LINE < n {
-        return Asked::Unanswered;
+        return Ok(Asked::Unanswered);
     }
     let target = target_of(order, Address(x as u64));
     let y = (target.address.0 % 4294967296) as u32;
     if is_right(order, x, &answer, n) {
-        words(b"Right.\n");
-        work_out(order, x, y);
-        return Asked::Right;
+        words(rt, b"Right.\n")?;
+        work_out(rt, order, x, y)?;
+        return Ok(Asked::Right);
     }
-    words(b"Wrong.\n");
-    work_out(order, x, y);
-    Asked::Wrong
+    words(rt, b"Wrong.\n")?;
+    work_out(rt, order, x, y)?;
+    Ok(Asked::Wrong)
 }
 
 // Questions until the input ends, or 2^32 - 1 are asked: address 3 first, then each time 5 further, round and round.
-pub(crate) fn hold(order: Order) {
+pub(crate) fn hold<R: Print + Input>(rt: &R, order: Order) -> io::Result<()> {
     let n = order.geometry.n;
     if 64 <= n {
-        return;
+        return Ok(());
     }
-    show(order);
+    show(rt, order)?;
     let size = power(n);
-    let mut x = 3;
+    let mut answers = rt.reader();
+    let mut x = 3u32;
     let mut right = 0u64;
     let mut asked = 0u64;
     while asked < 4294967295 {
-        match ask(order, (wide(x) % size % 4294967296) as u32) {
+        match ask(
+            rt,
+            &mut answers,
+            order,
+            (wide(x) % size % 4294967296) as u32,
+        )? {
             Asked::Right => {
                 right += 1;
             }
@@ -150,10 +167,10 @@ pub(crate) fn hold(order: Order) {
                 break;
             }
         }
-        x = std::num::wrapping_add_u32(x, 5);
+        x = x.wrapping_add(5);
         asked += 1;
     }
-    count(right);
-    number(b" right of ", asked);
-    words(b"\n");
+    count(rt, right)?;
+    number(rt, b" right of ", asked)?;
+    words(rt, b"\n")
 }

@@ -1,7 +1,7 @@
 -- What does a product of arrays hold, where a matrix is its list of columns? Assumes nothing.
 use mathlib.Core.Path.{◌∙◌, ◌≡◌, ap, ap₂}
 use mathlib.Core.List.{List, ◌++◌}
-use Prim.Native.Nat.{◌-◌, ℕ}
+use Prim.Native.Nat.{ℕ}
 use lib.ListN.{length, take}
 use lib.Seq.{take_at}
 use Rattle.algebra.specs.Matrix.{after}

@@ -60,7 +60,8 @@ fn at_least_one(n: u64) -> u64
 }
 
 // Every step of the plan in turn, from the fresh state on, each so many times more.
-pub fn send_all(
+pub fn send_all<R: Eprint>(
+    rt: &R,
     plan: Plan,
     again: u64,
     progress: Progress,
@@ -77,8 +78,8 @@ pub fn send_all(
     let mut k: u64 = 0;
     while k < total {
         s = send_step(plan, s, k, again, area0, area1, memory);
-        say_step(progress, k / each, each, k + 1, total);
+        say_step(rt, progress, k / each, each, k + 1, total);
         k += 1;
     }
-    say_end(progress, total);
+    say_end(rt, progress, total);
 }

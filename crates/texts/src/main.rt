@@ -4,9 +4,9 @@
 use listing::{ROOM, list_plan, listing_size};
 use plan::make::make_plan;
 use reading::{read_order, text_room};
+use std::io;
 use std::rt::{Env, Files};
-use std::{fs, io, str};
-use streams::{WORD, fill, word, word_count};
+use streams::{WORD, fill, say_unopened, word, word_count};
 use writing::refusal::{REFUSAL, write_refusal};
 
 fn answer(rt: &impl Print, text: &[u8]) -> io::Result<()> {
@@ -25,26 +25,15 @@ fn answer(rt: &impl Print, text: &[u8]) -> io::Result<()> {
     rt.write_all(&room[..k])
 }
 
-// The file can't be opened: the reason in the system's words, without the number that follows them.
-fn fail(rt: &(impl Eprint + Alloc), path: &str, error: io::Error) -> io::Result<()> {
-    let text = format!(in rt.alloc(); "{error}")?;
-    let reason = text.as_str().split(" (os error ").next().unwrap_or("");
-    eprintln!(rt; "{path}: {reason}")
-}
-
 // The text in the file that the argument names.
 fn one(rt: &(impl Env + Files + Print + Eprint + Alloc), which: usize) -> io::Result<()> {
     let mut name = [0u8; WORD];
     let length = word(rt, which, &mut name);
     rt.write_all(&name[..length])?;
     println!(rt)?;
-    let Ok(path) = str::from_utf8(&name[..length]) else {
-        // A name that is no text is no file's here.
-        return eprintln!(rt; "the name is no text");
-    };
-    let mut file = match fs::open(rt, path) {
+    let mut file = match streams::open(rt, &name[..length]) {
         Ok(file) => file,
-        Err(error) => return fail(rt, path, error),
+        Err(error) => return say_unopened(rt, &name[..length], error),
     };
     let mut buffer = text_room();
     let n = fill(&mut file, &mut buffer);

@@ -9,9 +9,12 @@ mod call; // call.rt: the words of the call
 use crate::call::{Asked, read_call};
 use copying::look::all_zero;
 use delivery::{Delivery, deliver};
-use libc::{STDERR_FILENO, STDIN_FILENO, STDOUT_FILENO};
 use reading::text_room;
 use sending::progress::Progress;
+use std::io;
+use std::io::IsTerminal;
+use std::rt::{Env, Files};
+use streams::{WORD, fill, word};
 
 // The most bytes of a run, and of its memory, which has at most half as many records.
 const AREA: usize = 2097152;
@@ -22,106 +25,115 @@ const MEMORY: usize = AREA / 2;
 const INPUT: usize = AREA + 1;
 
 // A line for each pass, or on a terminal one line that is written over.
-fn how_to_say() -> Progress {
-    if libc::isatty(STDERR_FILENO) == 1 {
+fn how_to_say<E: IsTerminal>(err: &E) -> Progress {
+    if err.is_terminal() {
         return Progress::Rewritten;
     }
     Progress::Lines
 }
 
 // Says that no byte of the run is left in the other area and in memory, after a look at every byte of them.
-fn look(spare: &[u8], memory: &[u8]) {
+fn look<E: Print>(err: &E, spare: &[u8], memory: &[u8]) -> io::Result<()> {
     if !all_zero(spare) {
-        say::not_blanked(b"the other area");
-        return;
+        return say::not_blanked(err, b"the other area");
     }
     if !all_zero(memory) {
-        say::not_blanked(b"the memory");
-        return;
+        return say::not_blanked(err, b"the memory");
     }
-    say::blanked();
+    say::blanked(err)
 }
 
 // The run as it came in goes out in tray order, or nothing does.
-fn answer(
+fn answer<R: Print, E: Print + Eprint + IsTerminal>(
+    rt: &R,
+    err: &E,
     text: &[u8],
     blanks: bool,
     again: u64,
     run: &mut [u8],
     spare: &mut [u8],
     memory: &mut [u8],
-) {
-    let delivery = deliver(text, blanks, again, how_to_say(), run, spare, memory);
+) -> io::Result<()> {
+    let progress = how_to_say(err);
+    let delivery = deliver(err, text, blanks, again, progress, run, spare, memory);
     match delivery {
         Delivery::Done => {
-            if !io::write_all(STDOUT_FILENO, run) {
-                os::fail(b"standard output");
-            }
+            rt.write_all(run)?;
             if blanks {
-                look(spare, memory);
+                return look(err, spare, memory);
             }
+            Ok(())
         }
-        Delivery::Refused(k, z) => {
-            say::refused(k, z);
-        }
-        Delivery::NoRoom(size) => {
-            say::no_room(size, AREA as u64, MEMORY as u64);
-        }
+        Delivery::Refused(k, z) => say::refused(err, k, z),
+        Delivery::NoRoom(size) => say::no_room(err, size, AREA as u64, MEMORY as u64),
     }
 }
 
 // Standard input is read to its end, or until it is longer than any run that has room.
-fn take_in(
+fn take_in<R: Input + Print, E: Print + Eprint + IsTerminal>(
+    rt: &R,
+    err: &E,
     text: &[u8],
     blanks: bool,
     again: u64,
     run: &mut [u8],
     spare: &mut [u8],
     memory: &mut [u8],
-) {
-    let came = io::read_full(STDIN_FILENO, run);
-    answer(text, blanks, again, &mut run[..came], spare, memory);
+) -> io::Result<()> {
+    let mut records = rt.reader();
+    let came = fill(&mut records, run);
+    answer(
+        rt,
+        err,
+        text,
+        blanks,
+        again,
+        &mut run[..came],
+        spare,
+        memory,
+    )
 }
 
 // The text in the file that the first word names.
-fn open(blanks: bool, again: u64, run: &mut [u8], spare: &mut [u8], memory: &mut [u8]) {
-    let mut path = io::buffer();
-    let length = os::arg(1, &mut path);
-    let fd = os::open_read(&path[..length]);
-    if fd < 0 {
-        say::not_opened(&path[..length]);
-        return;
-    }
+fn open<R: Env + Files + Input + Print, E: Print + Eprint + IsTerminal>(
+    rt: &R,
+    err: &E,
+    blanks: bool,
+    again: u64,
+    run: &mut [u8],
+    spare: &mut [u8],
+    memory: &mut [u8],
+) -> io::Result<()> {
+    let mut path = [0u8; WORD];
+    let length = word(rt, 1, &mut path);
+    let Ok(mut order) = streams::open(rt, &path[..length]) else {
+        return say::not_opened(err, &path[..length]);
+    };
     let mut text = text_room();
-    let n = io::read_full(fd, &mut text);
-    libc::close(fd);
-    take_in(&text[..n], blanks, again, run, spare, memory);
+    let n = fill(&mut order, &mut text);
+    take_in(rt, err, &text[..n], blanks, again, run, spare, memory)
 }
 
 // Lent by their types, the buffers need no proof of their lengths.
-fn start(run: &mut [u8; INPUT], spare: &mut [u8; AREA], memory: &mut [u8; MEMORY]) {
-    match read_call() {
-        Asked::Times(k, blanks) => {
-            open(blanks, k, run, spare, memory);
-        }
-        Asked::Missing => {
-            say::missing();
-        }
-        Asked::TooMany => {
-            say::too_many();
-        }
-        Asked::NoNumber => {
-            say::no_number();
-        }
-        Asked::NoBlank => {
-            say::no_blank();
-        }
+fn start<R: Env + Files + Input + Print, E: Print + Eprint + IsTerminal>(
+    rt: &R,
+    err: &E,
+    run: &mut [u8; INPUT],
+    spare: &mut [u8; AREA],
+    memory: &mut [u8; MEMORY],
+) -> io::Result<()> {
+    match read_call(rt) {
+        Asked::Times(k, blanks) => open(rt, err, blanks, k, run, spare, memory),
+        Asked::Missing => say::missing(err),
+        Asked::TooMany => say::too_many(err),
+        Asked::NoNumber => say::no_number(err),
+        Asked::NoBlank => say::no_blank(err),
     }
 }
 
-fn main() {
+fn main(rt: HostRuntime) -> io::Result<()> {
     let mut run = [0u8; INPUT];
     let mut spare = [0u8; AREA];
     let mut memory = [0u8; MEMORY];
-    start(&mut run, &mut spare, &mut memory);
+    start(&rt, &rt.stderr(), &mut run, &mut spare, &mut memory)
 }

@@ -1,70 +1,74 @@
-// The lines on standard error.
+// The lines on standard error, whose handle is `err`. They go there as bytes, since a path need not be text.
 use bank::Address;
-use libc::STDERR_FILENO;
+use std::io;
 use writing::refusal::{REFUSAL, write_refusal};
 
-fn words(w: &[u8]) {
-    io::write_all(STDERR_FILENO, w);
+fn words<E: Print>(err: &E, w: &[u8]) -> io::Result<()> {
+    err.write_all(w)
 }
 
-fn count(n: u64) {
-    io::print_decimal(STDERR_FILENO, n);
+fn count<E: Print>(err: &E, n: u64) -> io::Result<()> {
+    err.print(n)
 }
 
 // How to call it, to the end of the line.
-fn call() {
+fn call<E: Print>(err: &E) -> io::Result<()> {
     words(
+        err,
         b": tray ORDER [AGAIN] [blank] < RECORDS > TRAYS, where ORDER is a file with an order text and AGAIN a number of at most 10 digits\n",
-    );
+    )
 }
 
-pub(crate) fn missing() {
-    words(b"no order is named");
-    call();
+pub(crate) fn missing<E: Print>(err: &E) -> io::Result<()> {
+    words(err, b"no order is named")?;
+    call(err)
 }
 
-pub(crate) fn too_many() {
-    words(b"too many words");
-    call();
+pub(crate) fn too_many<E: Print>(err: &E) -> io::Result<()> {
+    words(err, b"too many words")?;
+    call(err)
 }
 
-pub(crate) fn no_number() {
-    words(b"AGAIN is no number");
-    call();
+pub(crate) fn no_number<E: Print>(err: &E) -> io::Result<()> {
+    words(err, b"AGAIN is no number")?;
+    call(err)
 }
 
-pub(crate) fn no_blank() {
-    words(b"the last word isn't blank");
-    call();
+pub(crate) fn no_blank<E: Print>(err: &E) -> io::Result<()> {
+    words(err, b"the last word isn't blank")?;
+    call(err)
 }
 
-pub(crate) fn blanked() {
-    words(b"the other area and the memory are zero in every byte\n");
+pub(crate) fn blanked<E: Print>(err: &E) -> io::Result<()> {
+    words(
+        err,
+        b"the other area and the memory are zero in every byte\n",
+    )
 }
 
-pub(crate) fn not_blanked(what: &[u8]) {
-    words(what);
-    words(b" isn't zero in every byte\n");
+pub(crate) fn not_blanked<E: Print>(err: &E, what: &[u8]) -> io::Result<()> {
+    words(err, what)?;
+    words(err, b" isn't zero in every byte\n")
 }
 
-pub(crate) fn not_opened(path: &[u8]) {
-    words(path);
-    words(b" can't be opened");
-    call();
+pub(crate) fn not_opened<E: Print>(err: &E, path: &[u8]) -> io::Result<()> {
+    words(err, path)?;
+    words(err, b" can't be opened")?;
+    call(err)
 }
 
-pub(crate) fn refused(number: u8, z: Address) {
+pub(crate) fn refused<E: Print>(err: &E, number: u8, z: Address) -> io::Result<()> {
     let mut line = [0u8; REFUSAL];
     let k = write_refusal(number, z, &mut line);
-    words(&line[..k]);
+    words(err, &line[..k])
 }
 
-pub(crate) fn no_room(size: u64, area: u64, memory: u64) {
-    words(b"the run has ");
-    count(size);
-    words(b" bytes and doesn't fit: tray has ");
-    count(area);
-    words(b" bytes an area and ");
-    count(memory);
-    words(b" bytes of memory\n");
+pub(crate) fn no_room<E: Print>(err: &E, size: u64, area: u64, memory: u64) -> io::Result<()> {
+    words(err, b"the run has ")?;
+    count(err, size)?;
+    words(err, b" bytes and doesn't fit: tray has ")?;
+    count(err, area)?;
+    words(err, b" bytes an area and ")?;
+    count(err, memory)?;
+    words(err, b" bytes of memory\n")
 }

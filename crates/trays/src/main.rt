@@ -5,13 +5,15 @@
 
 mod spent; // spent.rt: the other area and the memory, before a delivery and after it
 
-ghost use Rattle.io.specs.Counts.{IsPrefixLen};
+ghost use Rattle.std.specs.Io.{ReadsAtMost};
 
 use crate::spent::{mark, zeros};
 use delivery::{Delivery, deliver};
-use libc::STDOUT_FILENO;
 use reading::text_room;
 use sending::progress::Progress;
+use std::io;
+use std::rt::{Env, Files};
+use streams::{WORD, fill, say_unopened};
 use words::{Word, is_word, read_number};
 use writing::refusal::{REFUSAL, write_refusal};
 
@@ -22,92 +24,107 @@ const MEMORY: usize = AREA / 2;
 
 const INPUT: usize = AREA + 1;
 
-fn words(w: &[u8]) {
-    io::write_all(STDOUT_FILENO, w);
+fn words<R: Print>(rt: &R, w: &[u8]) -> io::Result<()> {
+    rt.write_all(w)
 }
 
-fn count(n: u64) {
-    io::print_decimal(STDOUT_FILENO, n);
+fn count<R: Print>(rt: &R, n: u64) -> io::Result<()> {
+    rt.print(n)
 }
 
 // The file that an argument names, read to its end or until there is no room: how many bytes came.
-fn file(which: usize, into: &mut [u8]) -> usize
-    ensures { IsPrefixLen result into.new }
+fn file<R: Env + Files + Print + Eprint + Alloc>(
+    rt: &R,
+    which: usize,
+    into: &mut [u8],
+) -> io::Result<usize>
+    ensures { ReadsAtMost result into.new }
 {
-    let mut path = io::buffer();
-    let length = os::arg(which, &mut path);
-    words(&path[..length]);
-    words(b" ");
-    let fd = os::open_read(&path[..length]);
-    if fd < 0 {
-        os::fail(&path[..length]);
-        return 0;
+    let mut path = [0u8; WORD];
+    let length = streams::word(rt, which, &mut path);
+    words(rt, &path[..length])?;
+    words(rt, b" ")?;
+    match streams::open(rt, &path[..length]) {
+        Ok(mut opened) => Ok(fill(&mut opened, into)),
+        Err(error) => {
+            say_unopened(rt, &path[..length], error)?;
+            Ok(0)
+        }
     }
-    let came = io::read_full(fd, into);
-    libc::close(fd);
-    came
 }
 
 // Both were marked whole, so the counts tell a byte too many that was blanked as they tell one too few.
-fn tell_zeros(spare: &[u8], memory: &[u8]) {
-    words(b"zero: ");
-    count(zeros(spare));
-    words(b" of the other area, ");
-    count(zeros(memory));
-    words(b" of memory\n");
+fn tell_zeros<R: Print>(rt: &R, spare: &[u8], memory: &[u8]) -> io::Result<()> {
+    words(rt, b"zero: ")?;
+    count(rt, zeros(spare))?;
+    words(rt, b" of the other area, ")?;
+    count(rt, zeros(memory))?;
+    words(rt, b" of memory\n")
 }
 
-fn answer(
+fn answer<R: Print + Eprint>(
+    rt: &R,
     text: &[u8],
     blanks: bool,
     again: u64,
     run: &mut [u8],
     spare: &mut [u8],
     memory: &mut [u8],
-) {
-    let delivery = deliver(text, blanks, again, Progress::Silent, run, spare, memory);
+) -> io::Result<()> {
+    let delivery = deliver(
+        rt,
+        text,
+        blanks,
+        again,
+        Progress::Silent,
+        run,
+        spare,
+        memory,
+    );
     match delivery {
         Delivery::Done => {
-            words(run);
+            words(rt, run)?;
             if blanks {
-                tell_zeros(spare, memory);
+                return tell_zeros(rt, spare, memory);
             }
+            Ok(())
         }
         Delivery::Refused(number, z) => {
             let mut line = [0u8; REFUSAL];
             let k = write_refusal(number, z, &mut line);
-            words(&line[..k]);
+            words(rt, &line[..k])
         }
         Delivery::NoRoom(size) => {
-            words(b"no room for ");
-            count(size);
-            words(b"\n");
+            words(rt, b"no room for ")?;
+            count(rt, size)?;
+            words(rt, b"\n")
         }
     }
 }
 
 // How often each step is sent again, by an argument that is a number.
-fn times(which: usize) -> u64 {
-    let mut word = io::buffer();
-    let length = os::arg(which, &mut word);
-    words(&word[..length]);
-    words(b" ");
+fn times<R: Env + Print>(rt: &R, which: usize) -> io::Result<u64> {
+    let mut word = [0u8; WORD];
+    let length = streams::word(rt, which, &mut word);
+    words(rt, &word[..length])?;
+    words(rt, b" ")?;
     let Word::Number(k) = read_number(&word[..length]) else {
-        return 0;
+        return Ok(0);
     };
-    k
+    Ok(k)
 }
 
 // Whether an argument, the last of a delivery, is `blank`.
-fn says_blank(which: usize) -> bool {
-    let mut word = io::buffer();
-    let length = os::arg(which, &mut word);
-    words(&word[..length]);
-    words(b"\n");
-    is_word(&word[..length], b"blank")
+fn says_blank<R: Env + Print>(rt: &R, which: usize) -> io::Result<bool> {
+    let mut word = [0u8; WORD];
+    let length = streams::word(rt, which, &mut word);
+    words(rt, &word[..length])?;
+    words(rt, b"\n")?;
+    Ok(is_word(&word[..length], b"blank"))
 }
 
-fn one(
+fn one<R: Env + Files + Print + Eprint + Alloc>(
+    rt: &R,
     order: usize,
     input: usize,
     again: usize,
@@ -115,31 +132,37 @@ fn one(
     run: &mut [u8],
     spare: &mut [u8],
     memory: &mut [u8],
-) {
+) -> io::Result<()> {
     let mut text = text_room();
-    let n = file(order, &mut text);
-    let came = file(input, run);
-    let k = times(again);
-    let blanks = says_blank(blank);
+    let n = file(rt, order, &mut text)?;
+    let came = file(rt, input, run)?;
+    let k = times(rt, again)?;
+    let blanks = says_blank(rt, blank)?;
     mark(spare);
     mark(memory);
-    answer(&text[..n], blanks, k, &mut run[..came], spare, memory);
+    answer(rt, &text[..n], blanks, k, &mut run[..came], spare, memory)
 }
 
 // Four words after four words. Lent by their types, the buffers need no proof of their lengths.
-fn all(run: &mut [u8; INPUT], spare: &mut [u8; AREA], memory: &mut [u8; MEMORY]) {
-    let deliveries = os::arg_count() / 4;
+fn all<R: Env + Files + Print + Eprint + Alloc>(
+    rt: &R,
+    run: &mut [u8; INPUT],
+    spare: &mut [u8; AREA],
+    memory: &mut [u8; MEMORY],
+) -> io::Result<()> {
+    let deliveries = streams::word_count(rt) / 4;
     let mut i = 0;
     while i < deliveries {
         let k = i * 4;
-        one(k + 1, k + 2, k + 3, k + 4, run, spare, memory);
+        one(rt, k + 1, k + 2, k + 3, k + 4, run, spare, memory)?;
         i += 1;
     }
+    Ok(())
 }
 
-fn main() {
+fn main(rt: HostRuntime) -> io::Result<()> {
     let mut run = [0u8; INPUT];
     let mut spare = [0u8; AREA];
     let mut memory = [0u8; MEMORY];
-    all(&mut run, &mut spare, &mut memory);
+    all(&rt, &mut run, &mut spare, &mut memory)
 }

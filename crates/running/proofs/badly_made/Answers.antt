@@ -1,7 +1,6 @@
 -- `running::badly_made` meets its contract: singular passes, then spilling ones. Assumes nothing.
 use mathlib.Core.Path.{sym, ◌∙◌}
 use native.Mathlib.Omega.{arith}
-use borrow.Author.Rules.{rules}
 use Rattle.totals.proofs.Total.{size_allowed, size_few}
 use Rattle.running.proofs.Judging.{singular_passes_asked, spilling_passes_asked}
 use Rattle.running.proofs.badly_made.Goals as goal

@@ -1,7 +1,6 @@
 -- `running::badly_stored` meets its contract: the four questions, one by one. Assumes nothing.
 use mathlib.Core.Path.{sym, ◌∙◌}
 use native.Mathlib.Omega.{arith}
-use borrow.Author.Rules.{rules}
 use Rattle.totals.proofs.Total.{size_allowed, size_few}
 use Rattle.running.proofs.Judging.{stray_rows_asked, stray_complements_asked, spare_rows_asked, spare_complements_asked}
 use Rattle.running.proofs.badly_stored.Goals as goal

@@ -1,7 +1,5 @@
 -- `running::can_run` meets its contract: the judgement, then the next step against the total. Assumes nothing.
 use mathlib.Core.Path.{sym, ◌∙◌}
-use borrow.Author.Rules.{rules}
-use borrow.Author.Tests.{not-true, not-false}
 use Rattle.running.proofs.Judging.{can_run_next}
 use Rattle.planning.specs.Running.{can_run}
 use Rattle.running.proofs.can_run.Goals as goal

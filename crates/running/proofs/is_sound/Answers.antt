@@ -1,8 +1,6 @@
 -- `running::is_sound` meets its contract: its size, how it is stored, how it is made. Assumes nothing.
 use mathlib.Core.Path.{ap, sym, ◌∙◌}
 use mathlib.Core.Bool.{not}
-use borrow.Author.Rules.{rules}
-use borrow.Author.Tests.{not-true, not-false}
 use Rattle.running.proofs.Judging.{sound_inside}
 use Rattle.planning.specs.Running.{sound}
 use Rattle.running.proofs.is_sound.Goals as goal

@@ -1,16 +1,11 @@
 -- `running::singular_passes` meets its contract: a search that passed only regular passes. Assumes nothing.
 use mathlib.Core.Path.{◌≡◌, sym, ap, ◌∙◌}
-use mathlib.Core.Bool.{Bool, false}
-use Prim.Native.Nat.{ℕ, ◌≤◌, ◌<◌, ◌-◌, ◌*◌}
+use mathlib.Core.Bool.{false}
 use native.Mathlib.Omega.{arith}
 use borrow.Author.Count.{below_more}
-use borrow.Author.Rules.{rules}
-use lib.ListN.{take, drop}
 use Rattle.algebra.specs.Matrix.{singular}
 use Rattle.running.proofs.Judging.{part_matrix}
-use Rattle.bank.specs.Limits.{ROWS}
 use Rattle.algebra.proofs.Search.{any_intro, none_intro}
-use mathlib.Core.List.{List}
 use Rattle.running.proofs.singular_passes.Invariants.{test}
 use Rattle.running.proofs.singular_passes.Goals as goal
 

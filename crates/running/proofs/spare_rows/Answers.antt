@@ -1,15 +1,11 @@
 -- `running::spare_rows` meets its contract: a search that passed only places that hold what they may. Assumes nothing.
 use mathlib.Core.Path.{◌≡◌, sym, ◌∙◌}
-use mathlib.Core.Bool.{Bool, ◌&&◌, ◌||◌, false, not}
-use Prim.Native.Nat.{ℕ, ◌≤◌, ◌<◌, ◌-◌, ◌*◌, ◌/◌, ◌%◌}
+use mathlib.Core.Bool.{false}
+use Prim.Native.Nat.{◌*◌}
 use native.Mathlib.Omega.{arith}
 use borrow.Author.Count.{below_more}
-use borrow.Author.Rules.{rules}
-use lib.Dec.{eqb, leb}
-use lib.ListN.{get_or}
 use Rattle.bank.specs.Limits.{ROWS, PASSES}
 use Rattle.algebra.proofs.Search.{any_intro, none_intro}
-use mathlib.Core.List.{List}
 use Rattle.running.proofs.spare_rows.Invariants.{test}
 use Rattle.running.proofs.spare_rows.Goals as goal
 

@@ -1,15 +1,10 @@
 -- `running::spilling_passes` meets its contract: a search that passed only dry passes. Assumes nothing.
-use mathlib.Core.Path.{◌≡◌, sym, ap, ◌∙◌}
+use mathlib.Core.Path.{◌≡◌}
 use mathlib.Core.Bool.{Bool, false}
 use Prim.Native.Nat.{ℕ, ◌≤◌, ◌<◌, ◌-◌, ◌*◌}
-use native.Mathlib.Omega.{arith}
-use borrow.Author.Count.{below_more}
-use borrow.Author.Rules.{rules}
 use lib.ListN.{take, drop}
 use Rattle.algebra.specs.Matrix.{spills}
-use Rattle.running.proofs.Judging.{part_matrix}
 use Rattle.bank.specs.Limits.{ROWS}
-use Rattle.algebra.proofs.Search.{any_intro, none_intro}
 use mathlib.Core.List.{List}
 use Rattle.running.proofs.spilling_passes.Given as goal
 

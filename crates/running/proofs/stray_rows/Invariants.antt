@@ -1,16 +1,11 @@
 -- `running::stray_rows` meets its contract: a search that passed only passes with no stray row. Assumes nothing.
-use mathlib.Core.Path.{◌≡◌, sym, ◌∙◌}
+use mathlib.Core.Path.{◌≡◌}
 use mathlib.Core.Bool.{Bool, false}
 use Prim.Native.Nat.{ℕ, ◌≤◌, ◌<◌, ◌-◌, ◌+◌, ◌*◌}
-use native.Mathlib.Omega.{arith}
-use borrow.Author.Count.{below_more}
-use borrow.Author.Rules.{rules}
 use lib.Dec.{leb}
 use lib.ListN.{get_or}
 use Rattle.algebra.specs.Search.{any_below}
-use Rattle.running.proofs.Judging.{part_stray}
 use Rattle.bank.specs.Limits.{ROWS}
-use Rattle.algebra.proofs.Search.{any_intro, none_intro}
 use mathlib.Core.List.{List}
 use Rattle.running.proofs.stray_rows.Given as goal
 

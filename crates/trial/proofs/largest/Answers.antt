@@ -1,8 +1,7 @@
 -- `trial::largest` meets its contract: no place is left after the rows. Assumes nothing.
-use mathlib.Core.Path.{◌≡◌, ap, ◌∙◌}
+use mathlib.Core.Path.{ap, ◌∙◌}
 use mathlib.Core.List.{List, append-nil}
 use Prim.Native.Nat.{ℕ}
-use borrow.Author.Rules.{rules}
 use Rattle.algebra.specs.Matrix.{identity}
 use Rattle.bank.specs.Limits.{ROWS}
 use Rattle.trial.proofs.largest.Goals as goal
