@@ -2,7 +2,7 @@
 #![tactic(auto)]
 
 ghost use Rattle.std.specs.Prelude.{◌≡◌, true, length};
-ghost use Rattle.bank.specs.Limits.{ROWS};
+ghost use Rattle.bank.specs.Limits;
 ghost use Rattle.bank.specs.Geometry.{in_limits};
 ghost use Rattle.order.specs.Order.{judgement};
 ghost use Rattle.moving.specs.Step.{buffers_of, area_bytes, memory_bytes, buffers_fit};
@@ -53,7 +53,7 @@ fn set_in_order<R: Eprint>(
     area1: &mut [u8],
     memory: &mut [u8],
 )
-    requires order_value { (judgement order ≡ 0) × (length order.rows ≡ ROWS) }
+    requires order_value { (judgement order ≡ 0) × (length order.rows ≡ Limits.ROWS) }
     requires memory_value { buffers_fit order.geometry (buffers_of area0.old area1.old memory.old) ≡ true }
     ensures { buffers_of area0.new area1.new memory.new
         ≡ set_in_order order blanks (buffers_of area0.old area1.old memory.old) }

@@ -2,8 +2,8 @@
 ghost use Rattle.std.specs.Prelude.{◌≡◌, ◌<◌, ◌≤◌};
 ghost use Rattle.std.specs.Int.Bits.{bit_xor};
 ghost use Rattle.std.specs.Int.Count.{count_trailing_zeros};
-ghost use Rattle.bank.specs.Limits.{ROWS};
-ghost use Rattle.algebra.specs.Vector.{WORD};
+ghost use Rattle.bank.specs.Limits;
+ghost use Rattle.algebra.specs.Vector;
 ghost use Rattle.algebra.specs.Elimination.{rest, used, no_entries, with_entry, grown, built};
 ghost use Rattle.elimination.specs.Echelon.{echelon_of};
 
@@ -28,7 +28,7 @@ pub struct Reduced {
 
 // No entries yet.
 pub fn no_entries() -> Echelon
-    ensures { echelon_of result ≡ no_entries ROWS }
+    ensures { echelon_of result ≡ no_entries Limits.ROWS }
 {
     Echelon {
         vectors: [0; ROWS],
@@ -40,7 +40,7 @@ pub fn no_entries() -> Echelon
 
 // v reduced by the entries, and t with the tags of those that were added.
 pub fn reduce(e: Echelon, v: u32, t: u32) -> Reduced
-    requires { e.count ≤ ROWS }
+    requires { e.count ≤ Limits.ROWS }
     ensures { (result.left ≡ rest e.vectors e.pivots e.count v)
         × (result.tag ≡ bit_xor t (used e.vectors e.pivots e.tags e.count v)) }
 {
@@ -62,14 +62,14 @@ pub fn reduce(e: Echelon, v: u32, t: u32) -> Reduced
 
 // The lowest set bit of x.
 pub fn lowest(x: u32) -> u32
-    ensures { result ≡ count_trailing_zeros WORD x }
+    ensures { result ≡ count_trailing_zeros Vector.WORD x }
 {
     u32::trailing_zeros(x)
 }
 
 // One entry more: what is left of a column, its lowest set bit, and the columns of which it is the sum.
 pub(crate) fn with_entry(e: Echelon, left: u32, tag: u32) -> Echelon
-    requires { e.count < ROWS }
+    requires { e.count < Limits.ROWS }
     ensures { echelon_of result ≡ with_entry (echelon_of e) left tag }
 {
     let mut out = e;
@@ -83,7 +83,7 @@ pub(crate) fn with_entry(e: Echelon, left: u32, tag: u32) -> Echelon
 
 // The entries after column j, too.
 pub fn grow(e: Echelon, j: u32, column: u32) -> Echelon
-    requires { (e.count < ROWS) × (j < WORD) }
+    requires { (e.count < Limits.ROWS) × (j < Vector.WORD) }
     ensures { echelon_of result ≡ grown (echelon_of e) j column }
 {
     let r = reduce(e, column, power(j));
@@ -96,8 +96,8 @@ pub fn grow(e: Echelon, j: u32, column: u32) -> Echelon
 
 // The entries after the first k columns.
 pub fn eliminate(cols: &[u32; ROWS], k: usize) -> Echelon
-    requires { k ≤ ROWS }
-    ensures { echelon_of result ≡ built ROWS cols.now k }
+    requires { k ≤ Limits.ROWS }
+    ensures { echelon_of result ≡ built Limits.ROWS cols.now k }
 {
     let mut e = no_entries();
     let mut j: usize = 0;

@@ -1,6 +1,6 @@
 // What one elimination answers.
 ghost use Rattle.std.specs.Prelude.{◌≡◌, false, ◌++◌, ◌<◌, ◌≤◌, ◌-◌, ◌^◌, take, replicate};
-ghost use Rattle.bank.specs.Limits.{ROWS};
+ghost use Rattle.bank.specs.Limits;
 ghost use Rattle.algebra.specs.Matrix.{kernel, singular, inverse, columns, spills};
 ghost use Rattle.elimination.specs.Solved.{Complete, solved_for};
 
@@ -25,7 +25,7 @@ pub struct Solved {
 
 // One elimination, up to the first column that is a sum of columns to its left. Its tag is the least vector sent to zero: the columns before it have no sum that is zero.
 fn sweep(rows: &[u32; ROWS], n: usize) -> Swept
-    requires { n ≤ ROWS }
+    requires { n ≤ Limits.ROWS }
     ensures { (result.kernel ≡ kernel n (take n rows.now)) × Complete n rows.now result }
 {
     let cols = columns(rows, 0, n, n);
@@ -52,7 +52,7 @@ fn sweep(rows: &[u32; ROWS], n: usize) -> Swept
 
 // The least nonzero vector that the matrix of the first n rows sends to zero, 0 where there is none.
 pub fn kernel(rows: &[u32; ROWS], n: usize) -> u32
-    requires { n ≤ ROWS }
+    requires { n ≤ Limits.ROWS }
     ensures { result ≡ kernel n (take n rows.now) }
 {
     let swept = sweep(rows, n);
@@ -61,7 +61,7 @@ pub fn kernel(rows: &[u32; ROWS], n: usize) -> u32
 
 // Whether the matrix of the first n rows sends some nonzero vector to zero.
 pub fn is_singular(rows: &[u32; ROWS], n: usize) -> bool
-    requires { n ≤ ROWS }
+    requires { n ≤ Limits.ROWS }
     ensures { result ≡ singular n (take n rows.now) }
 {
     kernel(rows, n) != 0
@@ -69,7 +69,7 @@ pub fn is_singular(rows: &[u32; ROWS], n: usize) -> bool
 
 // The least nonzero vector that the first n rows send to zero, or the address that they and c send to y: one elimination answers both.
 pub fn solve(rows: &[u32; ROWS], n: usize, c: u32, y: u32) -> Solved
-    requires { (n ≤ ROWS) × (c < 2 ^ n) × (y < 2 ^ n) }
+    requires { (n ≤ Limits.ROWS) × (c < 2 ^ n) × (y < 2 ^ n) }
     ensures { result ≡ solved_for n (take n rows.now) c y }
 {
     let swept = sweep(rows, n);
@@ -86,8 +86,8 @@ pub fn solve(rows: &[u32; ROWS], n: usize, c: u32, y: u32) -> Solved
 
 // The columns of the inverse of the first n rows; the places after them hold zero.
 pub fn inverse_columns(rows: &[u32; ROWS], n: usize) -> [u32; ROWS]
-    requires { (n ≤ ROWS) × (singular n (take n rows.now) ≡ false) }
-    ensures { result ≡ columns n (inverse n (take n rows.now)) ++ replicate (ROWS - n) 0 }
+    requires { (n ≤ Limits.ROWS) × (singular n (take n rows.now) ≡ false) }
+    ensures { result ≡ columns n (inverse n (take n rows.now)) ++ replicate (Limits.ROWS - n) 0 }
 {
     let cols = columns(rows, 0, n, n);
     let e = eliminate(&cols, n);
@@ -103,7 +103,7 @@ pub fn inverse_columns(rows: &[u32; ROWS], n: usize) -> [u32; ROWS]
 
 // Whether some number below 2^m has zero parity against rows b..m-1 and odd parity against one of rows m..n-1.
 pub fn spills(rows: &[u32; ROWS], n: usize, b: usize, m: usize) -> bool
-    requires { (b ≤ m) × (m ≤ n) × (n ≤ ROWS) }
+    requires { (b ≤ m) × (m ≤ n) × (n ≤ Limits.ROWS) }
     ensures { result ≡ spills b m (take n rows.now) }
 {
     let cols = columns(rows, b, m, m);

@@ -2,7 +2,7 @@
 #![tactic(auto)]
 
 ghost use Rattle.std.specs.Prelude.{◌≡◌, true, ◌++◌, ◌+◌, ◌<◌, ◌≤◌, length, take, drop};
-ghost use Rattle.bank.specs.Limits.{ROWS, PASSES};
+ghost use Rattle.bank.specs.Limits;
 ghost use Rattle.planning.specs.Running.{sound};
 ghost use Rattle.listing.specs.Listing.{head_lines, tail_lines, listing, written, room_after};
 ghost use Rattle.listing.specs.Passes.{pass_at_lines};
@@ -32,7 +32,7 @@ fn head_size(plan: Plan) -> usize
 
 // How many bytes pass p has: its number's line, and n + 1 lines of n characters.
 fn pass_size(plan: Plan, p: usize) -> usize
-    requires { (plan.geometry.n ≤ ROWS) × (p < PASSES) }
+    requires { (plan.geometry.n ≤ Limits.ROWS) × (p < Limits.PASSES) }
     ensures { result ≡ length (pass_at_lines plan p) }
 {
     let n = plan.geometry.n as usize;
@@ -79,7 +79,7 @@ fn put_head(room: &mut [u8], plan: Plan) -> usize
 
 // Pass p: its number, its n rows, its complement.
 fn put_pass(room: &mut [u8], at: usize, plan: Plan, p: usize) -> usize
-    requires { (plan.geometry.n ≤ ROWS) × (p < PASSES) × (at + length (pass_at_lines plan p) ≤ length room.old) }
+    requires { (plan.geometry.n ≤ Limits.ROWS) × (p < Limits.PASSES) × (at + length (pass_at_lines plan p) ≤ length room.old) }
     ensures { Wrote room.old at (pass_at_lines plan p) room.new result }
 {
     let n = plan.geometry.n as usize;

@@ -1,11 +1,12 @@
 // How far is a list from the one that its entry 0 and its entries 2^j ask for? Each entry is looked at once.
 ghost use Rattle.std.specs.Prelude.{◌≡◌, ◌++◌, min, ◌-◌, ◌*◌, ◌/◌, ◌%◌, ◌<◌, ◌≤◌, ◌^◌, get_or, length, replicate, take};
 ghost use Rattle.std.specs.Int.Bits.{bit_xor};
-ghost use Rattle.bank.specs.Limits.{ROWS};
+ghost use Rattle.bank.specs.Limits;
 ghost use Rattle.algebra.specs.Search.{listed};
 ghost use Rattle.algebra.specs.Vector.{comb};
 ghost use Rattle.algebra.specs.Carry.{place_by};
-ghost use Rattle.lists.specs.Apart.{LOW-BITS, LOW, all_bits, columns_of, apart_at};
+ghost use Rattle.lists.specs.Apart;
+ghost use Rattle.lists.specs.Apart.{all_bits, columns_of, apart_at};
 
 use bank::{ROWS, power, wide};
 use matrix::carry::flip;
@@ -17,8 +18,8 @@ const LOW: usize = 1 << LOW_BITS;
 
 // Entry 2^j without entry 0, as n bits, for each j below n; the places after them hold zero.
 pub(crate) fn columns_of(list: &[u64], n: usize) -> [u32; ROWS]
-    requires { (n ≤ ROWS) × (length list.now ≡ 2 ^ n) }
-    ensures { result ≡ columns_of list.now n ++ replicate (ROWS - n) 0 }
+    requires { (n ≤ Limits.ROWS) × (length list.now ≡ 2 ^ n) }
+    ensures { result ≡ columns_of list.now n ++ replicate (Limits.ROWS - n) 0 }
 {
     let size = power(n as u32);
     let mut cols = [0u32; ROWS];
@@ -33,8 +34,8 @@ pub(crate) fn columns_of(list: &[u64], n: usize) -> [u32; ROWS]
 
 // The base and the columns that each number below count picks; the places after them hold zero.
 fn low_targets(columns: &[u32], base: u32, count: usize) -> [u64; LOW]
-    requires { count ≤ LOW }
-    ensures { result ≡ listed (place_by base columns.now) count 0 ++ replicate (LOW - count) 0 }
+    requires { count ≤ Apart.LOW }
+    ensures { result ≡ listed (place_by base columns.now) count 0 ++ replicate (Apart.LOW - count) 0 }
 {
     let mut low = [0u64; LOW];
     let mut y = base;
@@ -84,14 +85,14 @@ fn apart_parts(list: &[u64], low: &[u64], high: &[u32], parts: usize) -> u64
 
 // How many bits of an address are low.
 fn low_bits(n: usize) -> usize
-    ensures { result ≡ min n LOW-BITS }
+    ensures { result ≡ min n Apart.LOW-BITS }
 {
     if n < LOW_BITS { n } else { LOW_BITS }
 }
 
 // Every bit by which an entry differs from the base and those of the n columns that its address picks.
 pub(crate) fn apart_from(list: &[u64], n: usize, columns: [u32; ROWS], base: u32) -> u64
-    requires { (n ≤ ROWS) × (length list.now ≡ 2 ^ n) }
+    requires { (n ≤ Limits.ROWS) × (length list.now ≡ 2 ^ n) }
     ensures { result ≡ all_bits (apart_at list.now base (take n columns)) (length list.now) }
 {
     let h = low_bits(n);

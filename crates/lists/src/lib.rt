@@ -4,7 +4,7 @@
 mod apart; // apart.rt: the entries against the only matrix and complement that can give them
 
 ghost use Rattle.std.specs.Prelude.{◌≡◌, ◌++◌, ◌-◌, ◌≤◌, length, replicate};
-ghost use Rattle.bank.specs.Limits.{ROWS};
+ghost use Rattle.bank.specs.Limits;
 ghost use Rattle.lists.specs.Targets.{bits_for};
 ghost use Rattle.lists.specs.Recognised.{recognised};
 
@@ -38,7 +38,7 @@ fn bits_for(size: usize) -> u32
 
 // A refusal.
 fn refused(number: u8, z: u32) -> Recognised
-    ensures { result ≡ record { number = number; n = 0; rows = replicate ROWS 0; complement = 0; z = record { 0 = z } } }
+    ensures { result ≡ record { number = number; n = 0; rows = replicate Limits.ROWS 0; complement = 0; z = record { 0 = z } } }
 {
     Recognised {
         number,

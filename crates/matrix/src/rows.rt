@@ -1,6 +1,6 @@
 // A matrix as an array of rows, applied and taken apart.
 ghost use Rattle.std.specs.Prelude.{◌≡◌, ◌++◌, ◌≤◌, ◌-◌, take, drop, replicate};
-ghost use Rattle.bank.specs.Limits.{ROWS};
+ghost use Rattle.bank.specs.Limits;
 ghost use Rattle.algebra.specs.Matrix.{after, applied, columns, identity, is_identity};
 
 use crate::vector::{parity, power, sum};
@@ -8,7 +8,7 @@ use bank::ROWS;
 
 // The rows from..to applied to x.
 pub fn apply_part(rows: &[u32; ROWS], from: usize, to: usize, x: u32) -> u32
-    requires { (from ≤ to) × (to ≤ ROWS) }
+    requires { (from ≤ to) × (to ≤ Limits.ROWS) }
     ensures { result ≡ applied (take (to - from) (drop from rows.now)) x }
 {
     let mut r: u32 = 0;
@@ -22,7 +22,7 @@ pub fn apply_part(rows: &[u32; ROWS], from: usize, to: usize, x: u32) -> u32
 
 // The first n rows applied to x.
 pub fn apply(rows: &[u32; ROWS], n: usize, x: u32) -> u32
-    requires { n ≤ ROWS }
+    requires { n ≤ Limits.ROWS }
     ensures { result ≡ applied (take n rows.now) x }
 {
     apply_part(rows, 0, n, x)
@@ -30,8 +30,8 @@ pub fn apply(rows: &[u32; ROWS], n: usize, x: u32) -> u32
 
 // The first n columns of the rows from..to; the places after them hold zero.
 pub fn columns(rows: &[u32; ROWS], from: usize, to: usize, n: usize) -> [u32; ROWS]
-    requires { (from ≤ to) × (to ≤ ROWS) × (n ≤ ROWS) }
-    ensures { result ≡ columns n (take (to - from) (drop from rows.now)) ++ replicate (ROWS - n) 0 }
+    requires { (from ≤ to) × (to ≤ Limits.ROWS) × (n ≤ Limits.ROWS) }
+    ensures { result ≡ columns n (take (to - from) (drop from rows.now)) ++ replicate (Limits.ROWS - n) 0 }
 {
     let mut cols = [0u32; ROWS];
     let mut j = 0;
@@ -44,8 +44,8 @@ pub fn columns(rows: &[u32; ROWS], from: usize, to: usize, n: usize) -> [u32; RO
 
 // The sums of the first n vectors that the first n picks ask for; the places after them hold zero.
 fn sums(picks: [u32; ROWS], vectors: &[u32; ROWS], n: usize) -> [u32; ROWS]
-    requires { n ≤ ROWS }
-    ensures { result ≡ after (take n vectors.now) (take n picks) ++ replicate (ROWS - n) 0 }
+    requires { n ≤ Limits.ROWS }
+    ensures { result ≡ after (take n vectors.now) (take n picks) ++ replicate (Limits.ROWS - n) 0 }
 {
     let mut rows = [0u32; ROWS];
     let mut i = 0;
@@ -58,8 +58,8 @@ fn sums(picks: [u32; ROWS], vectors: &[u32; ROWS], n: usize) -> [u32; ROWS]
 
 // The product of two matrices of n rows; the places after the rows hold zero.
 pub fn product(a: &[u32; ROWS], b: &[u32; ROWS], n: usize) -> [u32; ROWS]
-    requires { n ≤ ROWS }
-    ensures { result ≡ after (take n b.now) (take n a.now) ++ replicate (ROWS - n) 0 }
+    requires { n ≤ Limits.ROWS }
+    ensures { result ≡ after (take n b.now) (take n a.now) ++ replicate (Limits.ROWS - n) 0 }
 {
     let picks = *a;
     sums(picks, b, n)
@@ -67,8 +67,8 @@ pub fn product(a: &[u32; ROWS], b: &[u32; ROWS], n: usize) -> [u32; ROWS]
 
 // The identity of n rows; the places after them hold zero.
 pub fn identity(n: usize) -> [u32; ROWS]
-    requires { n ≤ ROWS }
-    ensures { result ≡ identity n ++ replicate (ROWS - n) 0 }
+    requires { n ≤ Limits.ROWS }
+    ensures { result ≡ identity n ++ replicate (Limits.ROWS - n) 0 }
 {
     let mut rows = [0u32; ROWS];
     let mut i = 0;
@@ -81,7 +81,7 @@ pub fn identity(n: usize) -> [u32; ROWS]
 
 // Whether the first n rows are those of the identity.
 pub fn is_identity(rows: &[u32; ROWS], n: usize) -> bool
-    requires { n ≤ ROWS }
+    requires { n ≤ Limits.ROWS }
     ensures { result ≡ is_identity n (take n rows.now) }
 {
     let mut i = 0;

@@ -1,7 +1,8 @@
 // Numbers as vectors over GF(2).
 ghost use Rattle.std.specs.Prelude.{◌≡◌, ◌<◌, ◌≤◌, ◌^◌, take};
-ghost use Rattle.bank.specs.Limits.{ROWS};
-ghost use Rattle.algebra.specs.Vector.{WORD, parity, bit, unless_zero, comb};
+ghost use Rattle.bank.specs.Limits;
+ghost use Rattle.algebra.specs.Vector;
+ghost use Rattle.algebra.specs.Vector.{parity, bit, unless_zero, comb};
 
 use bank::{ROWS, WORD};
 
@@ -28,7 +29,7 @@ pub fn unless_zero(d: u32, v: u32) -> u32
 
 // 2 to the j.
 pub fn power(j: u32) -> u32
-    requires { j < WORD }
+    requires { j < Vector.WORD }
     ensures { result ≡ 2 ^ j }
 {
     1u32 << j
@@ -36,7 +37,7 @@ pub fn power(j: u32) -> u32
 
 // The sum of those of the first n vectors that s picks.
 pub fn sum(vectors: &[u32; ROWS], n: usize, s: u32) -> u32
-    requires { n ≤ ROWS }
+    requires { n ≤ Limits.ROWS }
     ensures { result ≡ comb (take n vectors.now) s }
 {
     let mut total: u32 = 0;

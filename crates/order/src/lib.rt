@@ -4,7 +4,7 @@
 pub mod form; // form.rt: stray bits, and places meant to be zero
 
 ghost use Rattle.std.specs.Prelude.{◌≡◌, ◌≤◌};
-ghost use Rattle.bank.specs.Limits.{ROWS};
+ghost use Rattle.bank.specs.Limits;
 ghost use Rattle.bank.specs.Checks.{refuse};
 ghost use Rattle.order.specs.Order.{bad_form, form_number, verdict};
 
@@ -28,7 +28,7 @@ pub struct Verdict {
 
 // Whether the order isn't in good form, in a geometry inside the limits.
 fn bad_form(order: Order) -> bool
-    requires { order.geometry.n ≤ ROWS }
+    requires { order.geometry.n ≤ Limits.ROWS }
     ensures { result ≡ bad_form order }
 {
     let rows = order.rows;

@@ -1,6 +1,6 @@
 // The plan for an order.
 ghost use Rattle.std.specs.Prelude.{◌≡◌, true, false, ◌&&◌, ◌++◌, ◌≤◌, ◌-◌, eqb, take, replicate};
-ghost use Rattle.bank.specs.Limits.{ROWS};
+ghost use Rattle.bank.specs.Limits;
 ghost use Rattle.bank.specs.Geometry.{in_limits};
 ghost use Rattle.algebra.specs.Matrix.{columns, is_identity, singular, after};
 ghost use Rattle.planning.specs.Making.{passes_made};
@@ -25,8 +25,8 @@ pub struct Planned {
 
 // The rows of A Q, from the columns of A and of Q; the places after them hold zero.
 fn rows_after(a: &[u32; ROWS], q: &[u32; ROWS], n: usize) -> [u32; ROWS]
-    requires { n ≤ ROWS }
-    ensures { result ≡ columns n (after (take n a.now) (take n q.now)) ++ replicate (ROWS - n) 0 }
+    requires { n ≤ Limits.ROWS }
+    ensures { result ≡ columns n (after (take n a.now) (take n q.now)) ++ replicate (Limits.ROWS - n) 0 }
 {
     let both = product(q, a, n);
     columns(&both, 0, n, n)
@@ -45,7 +45,7 @@ fn plan_made(g: Geometry, rows: [u32; ROWS], c: u32, blanks: bool) -> Plan
     let mut cols = o.cols;
     let mut q = o.p;
     let mut p: usize = 0;
-    while is_busy(&cols, n, m) {
+    'rounds: while is_busy(&cols, n, m) {
         let r = round(&cols, n, b, m);
         plan = with_pass(plan, p, rows_after(&r.pass, &q, n), 0);
         cols = r.cols;
@@ -57,7 +57,7 @@ fn plan_made(g: Geometry, rows: [u32; ROWS], c: u32, blanks: bool) -> Plan
 
 // Whether A is the identity and c is 0: then no record need move.
 fn is_still(rows: &[u32; ROWS], n: usize, c: u32) -> bool
-    requires { n ≤ ROWS }
+    requires { n ≤ Limits.ROWS }
     ensures { result ≡ is_identity n (take n rows.now) && eqb c 0 }
 {
     if c != 0 {

@@ -1,6 +1,6 @@
 // Sets of columns as numbers: bit j is 1 where column j is in.
 ghost use Rattle.std.specs.Prelude.{◌≡◌, ◌<◌, ◌≤◌};
-ghost use Rattle.bank.specs.Limits.{ROWS};
+ghost use Rattle.bank.specs.Limits;
 ghost use Rattle.algebra.specs.Matrix.{marked, one_if};
 ghost use Rattle.planner.specs.Marks.{mask_of, lowest_of, bare};
 
@@ -10,7 +10,7 @@ use matrix::vector::{bit_of, power, unless_zero};
 
 // The marked ones of the first k columns.
 pub(crate) fn marks(cols: [u32; ROWS], k: usize) -> u32
-    requires { k ≤ ROWS }
+    requires { k ≤ Limits.ROWS }
     ensures { result ≡ mask_of (marked cols) k }
 {
     let mut e = no_entries();
@@ -35,7 +35,7 @@ pub(crate) fn lowest_of(set: u32) -> u32
 
 // 1 where j is one of the columns from..to and not in the set, in which they are numbered from 0 on; 0 elsewhere.
 pub(crate) fn bare(set: u32, from: usize, to: usize, j: usize) -> u32
-    requires { to ≤ ROWS }
+    requires { to ≤ Limits.ROWS }
     ensures { result ≡ one_if (bare set from to j) }
 {
     if j < from {

@@ -1,6 +1,6 @@
 // Steps 1 and 2 of planning: P, and A P.
 ghost use Rattle.std.specs.Prelude.{◌≡◌, ◌++◌, ◌<◌, ◌≤◌, ◌+◌, ◌-◌, ◌/◌, ◌^◌, take, replicate};
-ghost use Rattle.bank.specs.Limits.{ROWS};
+ghost use Rattle.bank.specs.Limits;
 ghost use Rattle.algebra.specs.Matrix.{columns, after};
 ghost use Rattle.algebra.specs.Search.{which};
 ghost use Rattle.planning.specs.Columns.{adding};
@@ -23,8 +23,8 @@ pub struct Operated {
 
 // The first k of one list of columns and then the first l of another; the places after them hold zero.
 fn followed(first: [u32; ROWS], k: usize, second: [u32; ROWS], l: usize) -> [u32; ROWS]
-    requires { (k + l ≤ ROWS) × (first ≡ take k first ++ replicate (ROWS - k) 0) }
-    ensures { result ≡ (take k first ++ take l second) ++ replicate (ROWS - (k + l)) 0 }
+    requires { (k + l ≤ Limits.ROWS) × (first ≡ take k first ++ replicate (Limits.ROWS - k) 0) }
+    ensures { result ≡ (take k first ++ take l second) ++ replicate (Limits.ROWS - (k + l)) 0 }
 {
     let mut both = first;
     let mut i = 0;
@@ -38,8 +38,8 @@ fn followed(first: [u32; ROWS], k: usize, second: [u32; ROWS], l: usize) -> [u32
 // The matrix that adds into each column of m..n that is not in the set one that is chosen, lowest with lowest, until one kind runs out.
 // In the set, columns m..n stand first, and then columns 0..m: those of them that are in it are the chosen ones.
 fn paired(set: u32, n: usize, m: usize) -> [u32; ROWS]
-    requires { (m < n) × (n ≤ ROWS) × (set < 2 ^ n) × (0 < m) }
-    ensures { result ≡ adding (partner (which (bare set m n) n 0) (places_of m (set / 2 ^ (n - m)))) n ++ replicate (ROWS - n) 0 }
+    requires { (m < n) × (n ≤ Limits.ROWS) × (set < 2 ^ n) × (0 < m) }
+    ensures { result ≡ adding (partner (which (bare set m n) n 0) (places_of m (set / 2 ^ (n - m)))) n ++ replicate (Limits.ROWS - n) 0 }
 {
     let mut out = [0u32; ROWS];
     let mut left = set >> ((n - m) as u32);
@@ -55,8 +55,8 @@ fn paired(set: u32, n: usize, m: usize) -> [u32; ROWS]
 
 // Step 1 as a matrix, for a matrix of n columns.
 fn step1(cols: &[u32; ROWS], n: usize, m: usize) -> [u32; ROWS]
-    requires { (0 < m) × (m < n) × (n ≤ ROWS) }
-    ensures { result ≡ step1 n m (take n cols.now) ++ replicate (ROWS - n) 0 }
+    requires { (0 < m) × (m < n) × (n ≤ Limits.ROWS) }
+    ensures { result ≡ step1 n m (take n cols.now) ++ replicate (Limits.ROWS - n) 0 }
 {
     let delta = lower(cols, m, n, m);
     let phi = lower(cols, 0, m, m);
@@ -66,8 +66,8 @@ fn step1(cols: &[u32; ROWS], n: usize, m: usize) -> [u32; ROWS]
 
 // Step 2 as a matrix, for a matrix of n columns.
 fn step2(cols: &[u32; ROWS], n: usize, m: usize) -> [u32; ROWS]
-    requires { (m < n) × (n ≤ ROWS) }
-    ensures { result ≡ step2 n m (take n cols.now) ++ replicate (ROWS - n) 0 }
+    requires { (m < n) × (n ≤ Limits.ROWS) }
+    ensures { result ≡ step2 n m (take n cols.now) ++ replicate (Limits.ROWS - n) 0 }
 {
     let phi = lower(cols, 0, m, m);
     let set = marks(phi, m);
@@ -84,9 +84,9 @@ fn step2(cols: &[u32; ROWS], n: usize, m: usize) -> [u32; ROWS]
 
 // A P and P, for the matrix A of n rows.
 pub fn operate(rows: &[u32; ROWS], n: usize, m: usize) -> Operated
-    requires { (0 < m) × (m < n) × (n ≤ ROWS) }
+    requires { (0 < m) × (m < n) × (n ≤ Limits.ROWS) }
     ensures { (result.cols ≡ after (columns n (take n rows.now)) (operations n m (columns n (take n rows.now)))
-        ++ replicate (ROWS - n) 0) × (result.p ≡ operations n m (columns n (take n rows.now)) ++ replicate (ROWS - n) 0) }
+        ++ replicate (Limits.ROWS - n) 0) × (result.p ≡ operations n m (columns n (take n rows.now)) ++ replicate (Limits.ROWS - n) 0) }
 {
     let a = columns(rows, 0, n, n);
     let s1 = step1(&a, n, m);

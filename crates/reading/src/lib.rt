@@ -5,8 +5,8 @@ mod number; // number.rt: numbers at a place of a text, and the first line
 mod rows; // rows.rt: rows of bits at a place of a text
 
 ghost use Rattle.std.specs.Prelude.{◌≡◌, ◌≤◌, replicate};
-ghost use Rattle.bank.specs.Limits.{ROWS};
-ghost use Rattle.reading.specs.OrderText.{TEXT};
+ghost use Rattle.bank.specs.Limits;
+ghost use Rattle.reading.specs.OrderText;
 ghost use Rattle.reading.specs.Reading.{Reads, no_order};
 ghost use Rattle.reading.specs.Found.{RestAt};
 
@@ -28,7 +28,7 @@ pub struct Read {
 
 // A room for the first bytes of an input: what they are read as, the whole input is read as.
 pub fn text_room() -> [u8; TEXT]
-    ensures { result ≡ replicate TEXT 0 }
+    ensures { result ≡ replicate OrderText.TEXT 0 }
 {
     [0u8; TEXT]
 }
@@ -57,7 +57,7 @@ fn refused(number: u8, z: Address) -> Read
 
 // What follows the first line of g: n rows, the complement, and nothing more.
 fn rest_at(text: &[u8], at: usize, g: Geometry) -> Read
-    requires { g.n ≤ ROWS }
+    requires { g.n ≤ Limits.ROWS }
     ensures { RestAt text.now at g result }
 {
     let n = g.n as usize;

@@ -1,6 +1,6 @@
 // Rows of bits are read at a place of a text.
 ghost use Rattle.std.specs.Prelude.{◌≤◌};
-ghost use Rattle.bank.specs.Limits.{ROWS};
+ghost use Rattle.bank.specs.Limits;
 ghost use Rattle.reading.specs.Found.{RowAt, RowsAt};
 
 use crate::number::{Parsed, digit_at};
@@ -16,7 +16,7 @@ pub(crate) struct Rows {
 
 // A line of n characters 0 or 1, bit 0 first, and the place past it.
 pub(crate) fn row_at(text: &[u8], at: usize, n: usize) -> Parsed
-    requires { n ≤ ROWS }
+    requires { n ≤ Limits.ROWS }
     ensures { RowAt text.now at n result }
 {
     let len = text.len();
@@ -45,7 +45,7 @@ pub(crate) fn row_at(text: &[u8], at: usize, n: usize) -> Parsed
 
 // n lines of n characters.
 pub(crate) fn rows_at(text: &[u8], at: usize, n: usize) -> Rows
-    requires { n ≤ ROWS }
+    requires { n ≤ Limits.ROWS }
     ensures { RowsAt text.now at n result }
 {
     let mut list = [0u32; ROWS];

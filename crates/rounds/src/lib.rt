@@ -2,7 +2,7 @@
 #![tactic(auto)]
 
 ghost use Rattle.std.specs.Prelude.{◌≡◌, ◌++◌, ◌<◌, ◌≤◌, ◌-◌, take, replicate};
-ghost use Rattle.bank.specs.Limits.{ROWS};
+ghost use Rattle.bank.specs.Limits;
 ghost use Rattle.algebra.specs.Search.{least_from};
 ghost use Rattle.planning.specs.Columns.{phi, zero_column};
 ghost use Rattle.planning.specs.Making.{busy, erases, round_left, round_pass, swaps};
@@ -23,7 +23,7 @@ pub struct Rounded {
 
 // Whether column j of φ is zero.
 fn is_zero(cols: &[u32; ROWS], m: usize, j: usize) -> bool
-    requires { (m < ROWS) × (j < m) }
+    requires { (m < Limits.ROWS) × (j < m) }
     ensures { result ≡ zero_column (phi m cols.now) j }
 {
     cols[j] >> (m as u32) == 0
@@ -31,7 +31,7 @@ fn is_zero(cols: &[u32; ROWS], m: usize, j: usize) -> bool
 
 // Whether φ has nonzero columns.
 pub fn is_busy(cols: &[u32; ROWS], n: usize, m: usize) -> bool
-    requires { (m < n) × (n ≤ ROWS) }
+    requires { (m < n) × (n ≤ Limits.ROWS) }
     ensures { result ≡ busy m (take n cols.now) }
 {
     let mut j = 0;
@@ -46,7 +46,7 @@ pub fn is_busy(cols: &[u32; ROWS], n: usize, m: usize) -> bool
 
 // The first zero column of φ from column `from` on, or m.
 fn next_zero(cols: &[u32; ROWS], m: usize, from: usize) -> usize
-    requires { (m < ROWS) × (from ≤ m) }
+    requires { (m < Limits.ROWS) × (from ≤ m) }
     ensures { result ≡ least_from (zero_column (phi m cols.now)) (m - from) from }
 {
     let mut y = from;
@@ -61,8 +61,8 @@ fn next_zero(cols: &[u32; ROWS], m: usize, from: usize) -> usize
 
 // S, for a matrix of n columns.
 fn swaps(cols: &[u32; ROWS], n: usize, b: usize, m: usize) -> [u32; ROWS]
-    requires { (b < m) × (m < n) × (n ≤ ROWS) }
-    ensures { result ≡ swaps n b m (take n cols.now) ++ replicate (ROWS - n) 0 }
+    requires { (b < m) × (m < n) × (n ≤ Limits.ROWS) }
+    ensures { result ≡ swaps n b m (take n cols.now) ++ replicate (Limits.ROWS - n) 0 }
 {
     let mut s = identity(n);
     let mut y = b;
@@ -84,8 +84,8 @@ fn swaps(cols: &[u32; ROWS], n: usize, b: usize, m: usize) -> [u32; ROWS]
 
 // E, for a matrix of n columns that are swapped already. For a zero column the elimination uses nothing.
 fn erases(cols: &[u32; ROWS], n: usize, b: usize, m: usize) -> [u32; ROWS]
-    requires { (b < m) × (m < n) × (n ≤ ROWS) × RoundReady n m (take n cols.now) }
-    ensures { result ≡ erases n b m (take n cols.now) ++ replicate (ROWS - n) 0 }
+    requires { (b < m) × (m < n) × (n ≤ Limits.ROWS) × RoundReady n m (take n cols.now) }
+    ensures { result ≡ erases n b m (take n cols.now) ++ replicate (Limits.ROWS - n) 0 }
 {
     let delta = lower(cols, m, n, m);
     let entries = eliminate(&delta, n - m);
@@ -101,9 +101,9 @@ fn erases(cols: &[u32; ROWS], n: usize, b: usize, m: usize) -> [u32; ROWS]
 
 // One round of a matrix of n columns.
 pub fn round(cols: &[u32; ROWS], n: usize, b: usize, m: usize) -> Rounded
-    requires { (b < m) × (m < n) × (n ≤ ROWS) × RoundReady n m (take n cols.now) }
-    ensures { (result.pass ≡ round_pass n b m (take n cols.now) ++ replicate (ROWS - n) 0)
-        × (result.cols ≡ round_left n b m (take n cols.now) ++ replicate (ROWS - n) 0) }
+    requires { (b < m) × (m < n) × (n ≤ Limits.ROWS) × RoundReady n m (take n cols.now) }
+    ensures { (result.pass ≡ round_pass n b m (take n cols.now) ++ replicate (Limits.ROWS - n) 0)
+        × (result.cols ≡ round_left n b m (take n cols.now) ++ replicate (Limits.ROWS - n) 0) }
 {
     let s = swaps(cols, n, b, m);
     let swapped = product(&s, cols, n);

@@ -2,7 +2,7 @@
 #![tactic(auto)]
 
 ghost use Rattle.std.specs.Prelude.{◌≡◌, true, not, ◌&&◌, ◌||◌, ◌<◌, ◌≤◌, ◌+◌, ◌*◌, ◌/◌, ◌%◌, eqb, leb, get_or, take, drop};
-ghost use Rattle.bank.specs.Limits.{ROWS, PASSES};
+ghost use Rattle.bank.specs.Limits;
 ghost use Rattle.algebra.specs.Search.{any_below};
 ghost use Rattle.algebra.specs.Matrix.{singular, spills};
 ghost use Rattle.bank.specs.Geometry.{in_limits};
@@ -16,8 +16,8 @@ use totals::{size_in_limits, total_steps};
 
 // Whether one of the first n rows of a used pass is size or more.
 fn stray_rows(rows: &[u32; PLACES], count: usize, n: usize, size: u64) -> bool
-    requires { (count ≤ PASSES) × (n ≤ ROWS) }
-    ensures { result ≡ any_below (λ p. any_below (λ i. leb size (get_or rows.now (p * ROWS + i) 0)) n) count }
+    requires { (count ≤ Limits.PASSES) × (n ≤ Limits.ROWS) }
+    ensures { result ≡ any_below (λ p. any_below (λ i. leb size (get_or rows.now (p * Limits.ROWS + i) 0)) n) count }
 {
     let mut p = 0;
     while p < count {
@@ -32,7 +32,7 @@ fn stray_rows(rows: &[u32; PLACES], count: usize, n: usize, size: u64) -> bool
 
 // Whether the complement of a used pass is size or more.
 fn stray_complements(complements: &[u32; PASSES], count: usize, size: u64) -> bool
-    requires { count ≤ PASSES }
+    requires { count ≤ Limits.PASSES }
     ensures { result ≡ any_below (λ p. leb size (get_or complements.now p 0)) count }
 {
     let all = &complements[..];
@@ -41,7 +41,7 @@ fn stray_complements(complements: &[u32; PASSES], count: usize, size: u64) -> bo
 
 // Whether place q is meant to hold zero, and the row there isn't zero.
 fn misplaced(row: u32, q: usize, count: usize, n: usize) -> bool
-    ensures { result ≡ (leb count (q / ROWS) || leb n (q % ROWS)) && not (eqb row 0) }
+    ensures { result ≡ (leb count (q / Limits.ROWS) || leb n (q % Limits.ROWS)) && not (eqb row 0) }
 {
     if row == 0 {
         return false;
@@ -54,7 +54,7 @@ fn misplaced(row: u32, q: usize, count: usize, n: usize) -> bool
 
 // Whether a place for a row that is meant to be zero isn't: its pass isn't used, or its row is n or above.
 fn spare_rows(rows: &[u32; PLACES], count: usize, n: usize) -> bool
-    ensures { result ≡ any_below (λ q. (leb count (q / ROWS) || leb n (q % ROWS)) && not (eqb (get_or rows.now q 0) 0)) (PASSES * ROWS) }
+    ensures { result ≡ any_below (λ q. (leb count (q / Limits.ROWS) || leb n (q % Limits.ROWS)) && not (eqb (get_or rows.now q 0) 0)) (Limits.PASSES * Limits.ROWS) }
 {
     let mut q = 0;
     while q < PLACES {
@@ -68,8 +68,8 @@ fn spare_rows(rows: &[u32; PLACES], count: usize, n: usize) -> bool
 
 // Whether the complement of a pass that isn't used isn't zero.
 fn spare_complements(complements: &[u32; PASSES], count: usize) -> bool
-    requires { count ≤ PASSES }
-    ensures { result ≡ any_below (λ p. leb count p && not (eqb (get_or complements.now p 0) 0)) PASSES }
+    requires { count ≤ Limits.PASSES }
+    ensures { result ≡ any_below (λ p. leb count p && not (eqb (get_or complements.now p 0) 0)) Limits.PASSES }
 {
     let all = &complements[..];
     order::form::spare(all, count)
@@ -77,8 +77,8 @@ fn spare_complements(complements: &[u32; PASSES], count: usize) -> bool
 
 // Whether a used pass is singular.
 fn singular_passes(rows: &[u32; PLACES], count: usize, n: usize) -> bool
-    requires { (count ≤ PASSES) × (n ≤ ROWS) }
-    ensures { result ≡ any_below (λ p. singular n (take n (drop (p * ROWS) rows.now))) count }
+    requires { (count ≤ Limits.PASSES) × (n ≤ Limits.ROWS) }
+    ensures { result ≡ any_below (λ p. singular n (take n (drop (p * Limits.ROWS) rows.now))) count }
 {
     let mut p = 0;
     while p < count {
@@ -93,8 +93,8 @@ fn singular_passes(rows: &[u32; PLACES], count: usize, n: usize) -> bool
 
 // Whether a used pass spills.
 fn spilling_passes(rows: &[u32; PLACES], count: usize, n: usize, b: usize, m: usize) -> bool
-    requires { (count ≤ PASSES) × (b ≤ m) × (m ≤ n) × (n ≤ ROWS) }
-    ensures { result ≡ any_below (λ p. spills b m (take n (drop (p * ROWS) rows.now))) count }
+    requires { (count ≤ Limits.PASSES) × (b ≤ m) × (m ≤ n) × (n ≤ Limits.ROWS) }
+    ensures { result ≡ any_below (λ p. spills b m (take n (drop (p * Limits.ROWS) rows.now))) count }
 {
     let mut p = 0;
     while p < count {

@@ -2,7 +2,7 @@
 #![tactic(auto)]
 
 ghost use Rattle.std.specs.Prelude.{◌≡◌, [], ◌<◌, ◌*◌, take, drop};
-ghost use Rattle.bank.specs.Limits.{ROWS, PASSES};
+ghost use Rattle.bank.specs.Limits;
 ghost use Rattle.planning.specs.Stored.{empty_plan, plan_of};
 ghost use Rattle.store.specs.Store.{with_pass};
 
@@ -42,8 +42,8 @@ pub fn no_passes(g: Geometry, blanks: bool) -> Plan
 
 // The rows of pass p, in the room that they have.
 pub fn pass_rows(rows: &[u32; PLACES], p: usize) -> [u32; ROWS]
-    requires { p < PASSES }
-    ensures { result ≡ take ROWS (drop (p * ROWS) rows.now) }
+    requires { p < Limits.PASSES }
+    ensures { result ≡ take Limits.ROWS (drop (p * Limits.ROWS) rows.now) }
 {
     let base = p * ROWS;
     let all = &rows[..];
@@ -58,7 +58,7 @@ pub fn pass_rows(rows: &[u32; PLACES], p: usize) -> [u32; ROWS]
 
 // The plan with pass p, the last so far.
 pub fn with_pass(plan: Plan, p: usize, rows: [u32; ROWS], complement: u32) -> Plan
-    requires { p < PASSES }
+    requires { p < Limits.PASSES }
     ensures { result ≡ with_pass plan p rows complement }
 {
     let mut out = plan;

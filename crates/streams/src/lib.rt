@@ -61,10 +61,10 @@ pub fn open<R: Files>(rt: &R, name: &[u8]) -> io::Result<R::File> {
     fs::open(rt, path)
 }
 
-// Says why a file can't be opened, in the system's words, without the number that follows them.
-pub fn say_unopened<R: Eprint + Alloc>(rt: &R, name: &[u8], error: Error) -> io::Result<()> {
+// Says what failed and why, in the system's words, without the number that follows them.
+pub fn say_failed<R: Eprint + Alloc>(rt: &R, what: &[u8], error: Error) -> io::Result<()> {
     let text = format!(in rt.alloc(); "{error}")?;
     let reason = text.as_str().split(" (os error ").next().unwrap_or("");
-    let path = str::from_utf8(name).unwrap_or("a name");
-    eprintln!(rt; "{path}: {reason}")
+    let what = str::from_utf8(what).unwrap_or("a name");
+    eprintln!(rt; "{what}: {reason}")
 }

@@ -1,9 +1,10 @@
 // What the writes of a pass need, worked out once a pass.
 ghost use Rattle.std.specs.Prelude.{◌≡◌, true, map, ◌++◌, ◌-◌, ◌/◌, ◌%◌, ◌≤◌, ◌<◌, ◌^◌, take, replicate};
-ghost use Rattle.bank.specs.Limits.{ROWS};
+ghost use Rattle.bank.specs.Limits;
 ghost use Rattle.std.specs.Int.Bits.{bit_xor};
 ghost use Rattle.bank.specs.Geometry.{block, memory_size, records, tiers, in_limits};
-ghost use Rattle.algebra.specs.Vector.{WORD, comb};
+ghost use Rattle.algebra.specs.Vector;
+ghost use Rattle.algebra.specs.Vector.{comb};
 ghost use Rattle.algebra.specs.Matrix.{applied, target};
 ghost use Rattle.moving.specs.Blocks.{block_start};
 ghost use Rattle.planning.specs.Stored.{route_of};
@@ -39,8 +40,8 @@ fn block_columns(
     m: usize,
     b: u32,
 ) -> [u32; ROWS]
-    requires { (n ≤ ROWS) × (m ≤ ROWS) × (b < WORD) }
-    ensures { result ≡ map (λ v. applied (take n rows.now) v / 2 ^ b) (take m columns) ++ replicate (ROWS - m) 0 }
+    requires { (n ≤ Limits.ROWS) × (m ≤ Limits.ROWS) × (b < Vector.WORD) }
+    ensures { result ≡ map (λ v. applied (take n rows.now) v / 2 ^ b) (take m columns) ++ replicate (Limits.ROWS - m) 0 }
 {
     let mut blocks = [0u32; ROWS];
     let mut j = 0;

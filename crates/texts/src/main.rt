@@ -6,7 +6,7 @@ use plan::make::make_plan;
 use reading::{read_order, text_room};
 use std::io;
 use std::rt::{Env, Files};
-use streams::{WORD, fill, say_unopened, word, word_count};
+use streams::{WORD, fill, say_failed, word, word_count};
 use writing::refusal::{REFUSAL, write_refusal};
 
 fn answer(rt: &impl Print, text: &[u8]) -> io::Result<()> {
@@ -33,7 +33,7 @@ fn one(rt: &(impl Env + Files + Print + Eprint + Alloc), which: usize) -> io::Re
     println!(rt)?;
     let mut file = match streams::open(rt, &name[..length]) {
         Ok(file) => file,
-        Err(error) => return say_unopened(rt, &name[..length], error),
+        Err(error) => return say_failed(rt, &name[..length], error),
     };
     let mut buffer = text_room();
     let n = fill(&mut file, &mut buffer);

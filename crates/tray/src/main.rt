@@ -14,7 +14,7 @@ use sending::progress::Progress;
 use std::io;
 use std::io::IsTerminal;
 use std::rt::{Env, Files};
-use streams::{WORD, fill, word};
+use streams::{WORD, fill, say_failed, word};
 
 // The most bytes of a run, and of its memory, which has at most half as many records.
 const AREA: usize = 2097152;
@@ -44,7 +44,7 @@ fn look<E: Print>(err: &E, spare: &[u8], memory: &[u8]) -> io::Result<()> {
 }
 
 // The run as it came in goes out in tray order, or nothing does.
-fn answer<R: Print, E: Print + Eprint + IsTerminal>(
+fn answer<R: Print + Eprint + Alloc, E: Print + Eprint + IsTerminal>(
     rt: &R,
     err: &E,
     text: &[u8],
@@ -58,7 +58,9 @@ fn answer<R: Print, E: Print + Eprint + IsTerminal>(
     let delivery = deliver(err, text, blanks, again, progress, run, spare, memory);
     match delivery {
         Delivery::Done => {
-            rt.write_all(run)?;
+            if let Err(error) = rt.write_all(run) {
+                say_failed(rt, b"standard output", error)?;
+            }
             if blanks {
                 return look(err, spare, memory);
             }
@@ -70,7 +72,7 @@ fn answer<R: Print, E: Print + Eprint + IsTerminal>(
 }
 
 // Standard input is read to its end, or until it is longer than any run that has room.
-fn take_in<R: Input + Print, E: Print + Eprint + IsTerminal>(
+fn take_in<R: Input + Print + Eprint + Alloc, E: Print + Eprint + IsTerminal>(
     rt: &R,
     err: &E,
     text: &[u8],
@@ -95,7 +97,7 @@ fn take_in<R: Input + Print, E: Print + Eprint + IsTerminal>(
 }
 
 // The text in the file that the first word names.
-fn open<R: Env + Files + Input + Print, E: Print + Eprint + IsTerminal>(
+fn open<R: Env + Files + Input + Print + Eprint + Alloc, E: Print + Eprint + IsTerminal>(
     rt: &R,
     err: &E,
     blanks: bool,
@@ -115,7 +117,7 @@ fn open<R: Env + Files + Input + Print, E: Print + Eprint + IsTerminal>(
 }
 
 // Lent by their types, the buffers need no proof of their lengths.
-fn start<R: Env + Files + Input + Print, E: Print + Eprint + IsTerminal>(
+fn start<R: Env + Files + Input + Print + Eprint + Alloc, E: Print + Eprint + IsTerminal>(
     rt: &R,
     err: &E,
     run: &mut [u8; INPUT],

@@ -13,7 +13,7 @@ use reading::text_room;
 use sending::progress::Progress;
 use std::io;
 use std::rt::{Env, Files};
-use streams::{WORD, fill, say_unopened};
+use streams::{WORD, fill, say_failed};
 use words::{Word, is_word, read_number};
 use writing::refusal::{REFUSAL, write_refusal};
 
@@ -47,7 +47,7 @@ fn file<R: Env + Files + Print + Eprint + Alloc>(
     match streams::open(rt, &path[..length]) {
         Ok(mut opened) => Ok(fill(&mut opened, into)),
         Err(error) => {
-            say_unopened(rt, &path[..length], error)?;
+            say_failed(rt, &path[..length], error)?;
             Ok(0)
         }
     }

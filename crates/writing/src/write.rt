@@ -1,6 +1,6 @@
 // Words, numbers and rows are written at a place of a room that has the space.
 ghost use Rattle.std.specs.Prelude.{◌≡◌, ◌++◌, ◌+◌, ◌^◌, ◌<◌, ◌≤◌, length, take};
-ghost use Rattle.bank.specs.Limits.{ROWS};
+ghost use Rattle.bank.specs.Limits;
 ghost use Rattle.text.specs.Lines.{line, decimal, bits, row_lines};
 ghost use Rattle.writing.specs.Written.{Wrote};
 
@@ -96,7 +96,7 @@ pub fn put_row(room: &mut [u8], at: usize, v: u32, n: usize) -> usize
 
 // The first n rows, a line for each.
 pub fn put_rows(room: &mut [u8], at: usize, rows: &[u32; ROWS], n: usize) -> usize
-    requires { (n ≤ ROWS) × (at + length (row_lines n (take n rows.now)) ≤ length room.old) }
+    requires { (n ≤ Limits.ROWS) × (at + length (row_lines n (take n rows.now)) ≤ length room.old) }
     ensures { Wrote room.old at (row_lines n (take n rows.now)) room.new result }
 {
     let all = &rows[..];

@@ -16,28 +16,26 @@ loop-p-init c =
 
 pub put_pass-i-requires : goal.put_pass-i-requires
 put_pass-i-requires c =
-    let start = c in
-    let a = start.args in
+    let a = c.args in
     let l = c.loop-p in
     let longer = up_to_longer a.plan l.p (omega arith) in
     let short = up_to_short a.plan (l.p + 1) in
-    let few = sound_few a.plan start.requires.0 in
+    let few = sound_few a.plan c.requires.0 in
     let size = length (pass_at_lines a.plan l.p) in (
-      (sound_allowed a.plan start.requires.0).n_high,
+      (sound_allowed a.plan c.requires.0).n_high,
       omega arith,
-      wrote_fits l.invariant.2 size (omega (arith, start.requires.1)),
+      wrote_fits l.invariant.2 size (omega (arith, c.requires.1)),
     )
 
 pub loop-p-preserved : goal.loop-p-preserved
 loop-p-preserved c =
-    let start = c in
-    let a = start.args in
+    let a = c.args in
     let l = c.loop-p in
     let longer = up_to_longer a.plan l.p (omega arith) in
     let short = up_to_short a.plan (l.p + 1) in
-    let both = wrote_more l.invariant.2 c.put_pass-i.ensures (omega (arith, start.requires.1)) in
+    let both = wrote_more l.invariant.2 c.put_pass-i.ensures (omega (arith, c.requires.1)) in
     let done = rw (← up_to_more a.plan l.p (omega arith)) at both in
-    (omega arith, wrote_length done (omega (arith, start.requires.1)), done)
+    (omega arith, wrote_length done (omega (arith, c.requires.1)), done)
 
 pub returns : goal.returns
 returns c =

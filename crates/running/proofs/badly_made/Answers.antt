@@ -15,13 +15,11 @@ returns-then-singular_passes c =
 
 pub spilling_passes-requires : goal.spilling_passes-requires
 spilling_passes-requires c =
-    let s = c in
-    let k = size_allowed s.args.plan s.requires in
-    (size_few s.args.plan s.requires, omega (arith, k.block_below), omega (arith, k.memory_below), k.n_high)
+    let k = size_allowed c.args.plan c.requires in
+    (size_few c.args.plan c.requires, omega (arith, k.block_below), omega (arith, k.memory_below), k.n_high)
 
 pub returns : goal.returns
 returns c =
-    let t = c in
-    let plan = t.args.plan in
-    sym (rw (singular_passes_asked plan ∙ sym t.singular_passes.ensures ∙ t.if-singular_passes.false)
+    let plan = c.args.plan in
+    sym (rw (singular_passes_asked plan ∙ sym c.singular_passes.ensures ∙ c.if-singular_passes.false)
     (spilling_passes_asked plan ∙ sym c.spilling_passes.ensures))

@@ -22,39 +22,33 @@ stray_complements-requires c = size_few _ c.requires
 
 pub returns-then-stray_complements : goal.returns-then-stray_complements
 returns-then-stray_complements c =
-    let t = c in
-    let size = t.power-size in
-    let plan = t.args.plan in
+    let size = c.power-size in
+    let plan = c.args.plan in
     sym (rw (
-      stray_rows_asked plan size.result size.ensures ∙ sym t.stray_rows.ensures ∙ t.if-stray_rows.false,
+      stray_rows_asked plan size.result size.ensures ∙ sym c.stray_rows.ensures ∙ c.if-stray_rows.false,
       stray_complements_asked plan size.result size.ensures ∙ sym c.stray_complements.ensures ∙ c.if-stray_complements.true,
     ))
 
 pub returns-then-spare_rows : goal.returns-then-spare_rows
 returns-then-spare_rows c =
-    let u = c in
-    let t = u in
-    let size = t.power-size in
-    let plan = t.args.plan in
+    let size = c.power-size in
+    let plan = c.args.plan in
     sym (rw (
-      stray_rows_asked plan size.result size.ensures ∙ sym t.stray_rows.ensures ∙ t.if-stray_rows.false,
-      stray_complements_asked plan size.result size.ensures ∙ sym u.stray_complements.ensures ∙ u.if-stray_complements.false,
+      stray_rows_asked plan size.result size.ensures ∙ sym c.stray_rows.ensures ∙ c.if-stray_rows.false,
+      stray_complements_asked plan size.result size.ensures ∙ sym c.stray_complements.ensures ∙ c.if-stray_complements.false,
       spare_rows_asked plan ∙ sym c.spare_rows.ensures ∙ c.if-spare_rows.true,
     ))
 
 pub spare_complements-requires : goal.spare_complements-requires
 spare_complements-requires c =
-    let u = c in
-    size_few _ u.requires
+    size_few _ c.requires
 
 pub returns : goal.returns
 returns c =
-    let u = c in
-    let t = u in
-    let size = t.power-size in
-    let plan = t.args.plan in
+    let size = c.power-size in
+    let plan = c.args.plan in
     sym (rw (
-      stray_rows_asked plan size.result size.ensures ∙ sym t.stray_rows.ensures ∙ t.if-stray_rows.false,
-      stray_complements_asked plan size.result size.ensures ∙ sym u.stray_complements.ensures ∙ u.if-stray_complements.false,
+      stray_rows_asked plan size.result size.ensures ∙ sym c.stray_rows.ensures ∙ c.if-stray_rows.false,
+      stray_complements_asked plan size.result size.ensures ∙ sym c.stray_complements.ensures ∙ c.if-stray_complements.false,
       spare_rows_asked plan ∙ sym c.spare_rows.ensures ∙ c.if-spare_rows.false,
     ) (spare_complements_asked plan ∙ sym c.spare_complements.ensures))

@@ -10,7 +10,6 @@ returns-then-not-is_sound c = sym (rw (can_run, sym c.is_sound.ensures ∙ c.if-
 
 pub returns : goal.returns
 returns c =
-    let t = c in
-    let a = t.args in
+    let a = c.args in
     let steps = c.total_steps in
-    can_run_next a.plan a.state steps.result (sym t.is_sound.ensures ∙ t.if-not-is_sound.false) steps.ensures
+    can_run_next a.plan a.state steps.result (sym c.is_sound.ensures ∙ c.if-not-is_sound.false) steps.ensures

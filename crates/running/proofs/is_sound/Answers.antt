@@ -14,8 +14,7 @@ badly_stored-requires c = sym c.size_in_limits.ensures ∙ c.if-not-size_in_limi
 
 pub returns-then-badly_stored : goal.returns-then-badly_stored
 returns-then-badly_stored c =
-    let t = c in
-    sym (sound_inside t.args.plan (sym t.size_in_limits.ensures ∙ t.if-not-size_in_limits.false)
+    sym (sound_inside c.args.plan (sym c.size_in_limits.ensures ∙ c.if-not-size_in_limits.false)
     ∙ rw (sym c.badly_stored.ensures ∙ c.if-badly_stored.true))
 
 pub badly_made-requires : goal.badly_made-requires
@@ -23,6 +22,5 @@ badly_made-requires c = sym c.size_in_limits.ensures ∙ c.if-not-size_in_limits
 
 pub returns : goal.returns
 returns c =
-    let t = c in
-    sym (sound_inside t.args.plan (sym t.size_in_limits.ensures ∙ t.if-not-size_in_limits.false)
+    sym (sound_inside c.args.plan (sym c.size_in_limits.ensures ∙ c.if-not-size_in_limits.false)
     ∙ rw (sym c.badly_stored.ensures ∙ c.if-badly_stored.false) (ap not (sym c.badly_made.ensures)))

@@ -14,19 +14,17 @@ loop-p-init c = (omega arith, λ k h. absurd (omega arith))
 
 pub returns-then-is_singular : goal.returns-then-is_singular
 returns-then-is_singular c =
-    let t = c in
-    let a = t.args in
-    let p = t.loop-p.p in
-    let part = part_matrix a.rows.now t.pass_rows-part.result p a.n (omega arith) t.pass_rows-part.ensures in
+    let a = c.args in
+    let p = c.loop-p.p in
+    let part = part_matrix a.rows.now c.pass_rows-part.result p a.n (omega arith) c.pass_rows-part.ensures in
     let asked = ap (singular a.n) part ∙ sym c.is_singular.ensures in
     sym (any_intro (test a.rows.now a.n) a.count p (omega arith) (asked ∙ c.if-is_singular.true))
 
 pub loop-p-preserved : goal.loop-p-preserved
 loop-p-preserved c =
-    let t = c in
-    let a = t.args in
-    let l = t.loop-p in
-    let part = part_matrix a.rows.now t.pass_rows-part.result l.p a.n (omega arith) t.pass_rows-part.ensures in
+    let a = c.args in
+    let l = c.loop-p in
+    let part = part_matrix a.rows.now c.pass_rows-part.result l.p a.n (omega arith) c.pass_rows-part.ensures in
     let asked = ap (singular a.n) part ∙ sym c.is_singular.ensures in
     (omega arith, below_more (λ k. test a.rows.now a.n k ≡ false) l.p l.invariant.1 (asked ∙ c.if-is_singular.false))
 

@@ -14,19 +14,17 @@ loop-p-init c = (omega arith, λ k h. absurd (omega arith))
 
 pub returns-then-spills : goal.returns-then-spills
 returns-then-spills c =
-    let t = c in
-    let a = t.args in
-    let p = t.loop-p.p in
-    let part = part_matrix a.rows.now t.pass_rows-part.result p a.n (omega arith) t.pass_rows-part.ensures in
+    let a = c.args in
+    let p = c.loop-p.p in
+    let part = part_matrix a.rows.now c.pass_rows-part.result p a.n (omega arith) c.pass_rows-part.ensures in
     let asked = ap (spills a.b a.m) part ∙ sym c.spills.ensures in
     sym (any_intro (test a.rows.now a.n a.b a.m) a.count p (omega arith) (asked ∙ c.if-spills.true))
 
 pub loop-p-preserved : goal.loop-p-preserved
 loop-p-preserved c =
-    let t = c in
-    let a = t.args in
-    let l = t.loop-p in
-    let part = part_matrix a.rows.now t.pass_rows-part.result l.p a.n (omega arith) t.pass_rows-part.ensures in
+    let a = c.args in
+    let l = c.loop-p in
+    let part = part_matrix a.rows.now c.pass_rows-part.result l.p a.n (omega arith) c.pass_rows-part.ensures in
     let asked = ap (spills a.b a.m) part ∙ sym c.spills.ensures in
     (omega arith, below_more (λ k. test a.rows.now a.n a.b a.m k ≡ false) l.p l.invariant.1 (asked ∙ c.if-spills.false))
 

@@ -13,18 +13,16 @@ loop-p-init c = (omega arith, λ k h. absurd (omega arith))
 
 pub returns-then-stray : goal.returns-then-stray
 returns-then-stray c =
-    let t = c in
-    let a = t.args in
-    let p = t.loop-p.p in
-    let part = part_stray a.rows.now t.pass_rows-part.result p a.n (omega arith) t.pass_rows-part.ensures a.size in
+    let a = c.args in
+    let p = c.loop-p.p in
+    let part = part_stray a.rows.now c.pass_rows-part.result p a.n (omega arith) c.pass_rows-part.ensures a.size in
     sym (any_intro (test a.rows.now a.n a.size) a.count p (omega arith) (part ∙ sym c.stray.ensures ∙ c.if-stray.true))
 
 pub loop-p-preserved : goal.loop-p-preserved
 loop-p-preserved c =
-    let t = c in
-    let a = t.args in
-    let l = t.loop-p in
-    let part = part_stray a.rows.now t.pass_rows-part.result l.p a.n (omega arith) t.pass_rows-part.ensures a.size in
+    let a = c.args in
+    let l = c.loop-p in
+    let part = part_stray a.rows.now c.pass_rows-part.result l.p a.n (omega arith) c.pass_rows-part.ensures a.size in
     (omega arith, below_more (λ k. test a.rows.now a.n a.size k ≡ false) l.p l.invariant.1 (part ∙ sym c.stray.ensures ∙ c.if-stray.false))
 
 pub returns : goal.returns

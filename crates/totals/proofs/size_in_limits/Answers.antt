@@ -8,5 +8,4 @@ returns-then-not-in_limits c = sym (rw (sym c.in_limits.ensures ∙ c.if-not-in_
 
 pub returns : goal.returns
 returns c =
-    let t = c in
-    sym (size_asked t.args.plan (sym t.in_limits.ensures ∙ t.if-not-in_limits.false))
+    sym (size_asked c.args.plan (sym c.in_limits.ensures ∙ c.if-not-in_limits.false))

@@ -20,30 +20,26 @@ power-size-requires c =
 
 pub power-block-requires : goal.power-block-requires
 power-block-requires c =
-    let t = c in
-    let k = size_allowed t.args.plan (sym t.size_in_limits.ensures ∙ t.if-not-size_in_limits.false) in
+    let k = size_allowed c.args.plan (sym c.size_in_limits.ensures ∙ c.if-not-size_in_limits.false) in
     omega (arith, k.n_high, k.memory_below, k.block_below)
 
 pub power-drives-requires : goal.power-drives-requires
 power-drives-requires c =
-    let t = c in
-    let k = size_allowed t.args.plan (sym t.size_in_limits.ensures ∙ t.if-not-size_in_limits.false) in
+    let k = size_allowed c.args.plan (sym c.size_in_limits.ensures ∙ c.if-not-size_in_limits.false) in
     omega (arith, k.n_high, k.memory_below, k.drives_fit)
 
 pub overflow_mul-result : goal.overflow_mul-result
 overflow_mul-result c =
     let size = c.power-size in
-    let t = c in
-    let plan = t.args.plan in
-    let small = records_small plan.geometry (size_allowed plan (sym t.size_in_limits.ensures ∙ t.if-not-size_in_limits.false)) in
+    let plan = c.args.plan in
+    let small = records_small plan.geometry (size_allowed plan (sym c.size_in_limits.ensures ∙ c.if-not-size_in_limits.false)) in
     let few : c.phases.result ≤ 4 = omega (arith, c.phases.ensures, few_phases (route_of plan)) in
     omega (arith, phases_small c.phases.result size.result few (omega (arith, small, size.ensures)))
 
 pub overflow_mul-result-2 : goal.overflow_mul-result-2
 overflow_mul-result-2 c =
-    let t = c in
-    let plan = t.args.plan in
-    let small = stripe_small plan.geometry (size_allowed plan (sym t.size_in_limits.ensures ∙ t.if-not-size_in_limits.false)) in
+    let plan = c.args.plan in
+    let small = stripe_small plan.geometry (size_allowed plan (sym c.size_in_limits.ensures ∙ c.if-not-size_in_limits.false)) in
     omega (arith, small, ap₂ ◌*◌ c.power-block.ensures c.power-drives.ensures)
 
 pub nonzero_div-result : goal.nonzero_div-result
@@ -56,9 +52,8 @@ overflow_mul-result-3 c =
     let phases = c.phases in
     let size = c.power-size in
     let part = c.power-block.result * c.power-drives.result in
-    let t = c in
-    let plan = t.args.plan in
-    let inside = sym t.size_in_limits.ensures ∙ t.if-not-size_in_limits.false in
+    let plan = c.args.plan in
+    let inside = sym c.size_in_limits.ensures ∙ c.if-not-size_in_limits.false in
     let few : phases.result ≤ 4 = omega (arith, phases.ensures, few_phases (route_of plan)) in
     let small : size.result ≤ 2 ^ ROWS = omega (arith, records_small plan.geometry (size_allowed plan inside), size.ensures) in
     let count : c.wide.result ≤ PASSES = omega (arith, size_few plan inside, c.wide.ensures) in
@@ -70,6 +65,5 @@ returns c =
     let size = c.power-size in
     let block = c.power-block in
     let drives = c.power-drives in
-    let t = c in
-    total_from t.args.plan (sym t.size_in_limits.ensures ∙ t.if-not-size_in_limits.false) phases.result size.result
+    total_from c.args.plan (sym c.size_in_limits.ensures ∙ c.if-not-size_in_limits.false) phases.result size.result
     block.result drives.result c.wide.result phases.ensures size.ensures block.ensures drives.ensures c.wide.ensures

@@ -19,14 +19,13 @@ reduce-r-requires c = let few = built_count ROWS _ _ _ c.eliminate-e.ensures in 
 
 pub loop-j-preserved : goal.loop-j-preserved
 loop-j-preserved c =
-    let s = c in
-    let n = s.args.n in
-    let back = inverse n (take n s.args.rows.now) in
+    let n = c.args.n in
+    let back = inverse n (take n c.args.rows.now) in
     let k = c.columns-cols in
     let e = c.eliminate-e in
     let l = c.loop-j in
     let long = columns-length n back in
-    let column = inverse-built ROWS n s.args.rows.now _ s.requires.0 (omega arith) (columns_whole ROWS n s.args.rows.now _ k.ensures) _ e.ensures s.requires.1 l.j (search rules) in
+    let column = inverse-built ROWS n c.args.rows.now _ c.requires.0 (omega arith) (columns_whole ROWS n c.args.rows.now _ k.ensures) _ e.ensures c.requires.1 l.j (search rules) in
     let tag = c.reduce-r.ensures.1 ∙ ap (used_of (echelon_of e.result)) c.power.ensures ∙ column in
     (search rules, filled_next ROWS (columns n back) (omega arith) l.j _ _ (omega arith) l.invariant.1 tag)
 

@@ -28,13 +28,12 @@ reduce-r-requires c =
 
 pub returns-then-apply_part-gt0 : goal.returns-then-apply_part-gt0
 returns-then-apply_part-gt0 c =
-    let s = c in
-    let a = s.args in
+    let a = c.args in
     let k = c.columns-cols in
     let l = c.loop-j in
     let p = c.power in
     let r = c.reduce-r in
-    spills_yes a.rows.now a.b a.m a.n s.requires.0 s.requires.1 ROWS s.requires.2 (omega arith) _ k.ensures
+    spills_yes a.rows.now a.b a.m a.n c.requires.0 c.requires.1 ROWS c.requires.2 (omega arith) _ k.ensures
     l.j _ _ _ _ (search rules) l.invariant.1 r.ensures.0 p.ensures r.ensures.1
     c.if-left-eq0.true (λ z. omega (arith, c.apply_part.ensures ∙ z, c.if-apply_part-gt0.true))
 
@@ -45,24 +44,22 @@ grow-e-requires c =
 
 pub loop-j-preserved : goal.loop-j-preserved
 loop-j-preserved c =
-    let s = c in
-    let a = s.args in
+    let a = c.args in
     let k = c.columns-cols in
     let l = c.loop-j in
     let p = c.power in
     let r = c.reduce-r in (
       search rules,
       built_next ROWS _ _ _ _ l.invariant.1 (search rules),
-      through_next a.rows.now a.b a.m a.n s.requires.0 s.requires.1 ROWS s.requires.2 (omega arith) _ k.ensures
+      through_next a.rows.now a.b a.m a.n c.requires.0 c.requires.1 ROWS c.requires.2 (omega arith) _ k.ensures
           l.j _ _ _ _ (search rules) l.invariant.1 r.ensures.0 p.ensures r.ensures.1
           (elim c.if-left-eq0.branch [ then-left-eq0+else-apply_part-gt0 w ↦ inl (w.if-left-eq0.true, omega (arith, w.apply_part.ensures, w.if-apply_part-gt0.false)) | else-left-eq0 w ↦ inr w.if-left-eq0.false ]) l.invariant.2,
     )
 
 pub returns : goal.returns
 returns c =
-    let s = c in
-    let a = s.args in
+    let a = c.args in
     let mid = take (a.m - a.b) (drop a.b a.rows.now) in
     let low = take (a.n - a.m) (drop a.m a.rows.now) in
     let done : c.loop-j.j ≡ a.m = omega arith in
-    spills_no a.rows.now a.b a.m a.n s.requires.0 s.requires.1 (subst (λ (j : ℕ). Through mid low j) done c.loop-j.invariant.2)
+    spills_no a.rows.now a.b a.m a.n c.requires.0 c.requires.1 (subst (λ (j : ℕ). Through mid low j) done c.loop-j.invariant.2)

@@ -27,15 +27,14 @@ reduce-r-requires c =
 
 pub returns-then-left-eq0 : goal.returns-then-left-eq0
 returns-then-left-eq0 c =
-    let s = c in
-    let a = s.args in
+    let a = c.args in
     let whole = columns_whole ROWS a.n a.rows.now _ c.columns-cols.ensures in
     let l = c.loop-j in
     let p = c.power in
     let r = c.reduce-r in (
-      kernel_tag ROWS a.n a.rows.now _ s.requires (omega arith) whole l.j _ _ _ _ (search rules) l.invariant.1 r.ensures.0 p.ensures
+      kernel_tag ROWS a.n a.rows.now _ c.requires (omega arith) whole l.j _ _ _ _ (search rules) l.invariant.1 r.ensures.0 p.ensures
           r.ensures.1 l.invariant.2 c.if-left-eq0.true,
-      λ regular. absurd (true≢false (sym (singular_tag ROWS a.n a.rows.now _ s.requires (omega arith) whole l.j _ _ _ _ (search rules) l.invariant.1
+      λ regular. absurd (true≢false (sym (singular_tag ROWS a.n a.rows.now _ c.requires (omega arith) whole l.j _ _ _ _ (search rules) l.invariant.1
           r.ensures.0 p.ensures r.ensures.1 l.invariant.2 c.if-left-eq0.true) ∙ regular)),
     )
 
@@ -46,8 +45,7 @@ with_entry-e-requires c =
 
 pub loop-j-preserved : goal.loop-j-preserved
 loop-j-preserved c =
-    let s = c in
-    let a = s.args in
+    let a = c.args in
     let k = c.columns-cols in
     let whole = columns_whole ROWS a.n a.rows.now _ k.ensures in
     let l = c.loop-j in
@@ -57,7 +55,7 @@ loop-j-preserved c =
     (r.ensures.1 ∙ ap (λ (x : ℕ). bit_xor x (used_of (echelon_of l.e) (get_or k.result l.j 0))) p.ensures) in (
       search rules,
       built_next ROWS _ _ _ _ l.invariant.1 grown,
-      marked_next ROWS a.n a.rows.now _ s.requires (omega arith) whole l.j _ _ _ _ (search rules) l.invariant.1 r.ensures.0 p.ensures
+      marked_next ROWS a.n a.rows.now _ c.requires (omega arith) whole l.j _ _ _ _ (search rules) l.invariant.1 r.ensures.0 p.ensures
           r.ensures.1 l.invariant.2 c.if-left-eq0.false,
     )
 

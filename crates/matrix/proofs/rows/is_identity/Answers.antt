@@ -13,17 +13,15 @@ loop-i-init c = (omega arith, λ k h. absurd (omega arith))
 
 pub returns-then-rows-i : goal.returns-then-rows-i
 returns-then-rows-i c =
-    let t = c in
-    let a = t.args in
-    let i = t.loop-i.i in
+    let a = c.args in
+    let i = c.loop-i.i in
     sym (other_row a.n (take a.n a.rows.now) i (omega arith)
     (λ e. c.if-rows-i.true (sym (get_or-take a.n a.rows.now i 0 (omega arith)) ∙ e ∙ sym c.power.ensures)))
 
 pub loop-i-preserved : goal.loop-i-preserved
 loop-i-preserved c =
-    let t = c in
-    let a = t.args in
-    let l = t.loop-i in
+    let a = c.args in
+    let l = c.loop-i in
     (omega arith, below_more (λ k. get_or a.rows.now k 0 ≡ 2 ^ k) l.i l.invariant.1 (c.if-rows-i.false ∙ c.power.ensures))
 
 pub returns : goal.returns

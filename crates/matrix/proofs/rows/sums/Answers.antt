@@ -13,10 +13,9 @@ use Rattle.matrix.proofs.rows.sums.Goals as goal
 
 pub loop-i-preserved : goal.loop-i-preserved
 loop-i-preserved c =
-    let s = c in
-    let a = s.args.picks in
-    let n = s.args.n in
-    let b = take n s.args.vectors.now in
+    let a = c.args.picks in
+    let n = c.args.n in
+    let b = take n c.args.vectors.now in
     let l = c.loop-i in
     let long = after-length b (take n a) ∙ length-take-le n a (omega arith) in
     let sum = c.sum.ensures ∙ sym (after_at b (take n a) l.i ∙ ap (comb b) (get_or-take n a l.i 0 (search rules))) in

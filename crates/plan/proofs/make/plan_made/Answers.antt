@@ -11,8 +11,8 @@ use Rattle.plan.proofs.make.plan_made.Goals as goal
 pub operate-o-requires : goal.operate-o-requires
 operate-o-requires c = let k = limits→allowed _ c.requires.0 in (omega (arith, k.block_below), k.memory_below, k.n_high)
 
-pub loop-cols-init : goal.loop-cols-init
-loop-cols-init c =
+pub rounds-init : goal.rounds-init
+rounds-init c =
     let a = c.args in
     let g = a.g in
     let o = c.operate-o in
@@ -20,22 +20,22 @@ loop-cols-init c =
     make_start g a.rows a.c a.blanks c.requires.0 (search rules) c.requires.1 o.result.cols o.result.p o.ensures.0 o.ensures.1 e.result e.ensures
 
 pub with_pass-plan-requires : goal.with_pass-plan-requires
-with_pass-plan-requires c = make_room c.loop-cols.invariant
+with_pass-plan-requires c = make_room c.rounds.invariant
 
-pub loop-cols-smaller : goal.loop-cols-smaller
-loop-cols-smaller c =
-    omega (arith, make_goes c.loop-cols.invariant (sym c.is_busy.ensures ∙ c.loop-cols-test.true))
+pub rounds-smaller : goal.rounds-smaller
+rounds-smaller c =
+    omega (arith, make_goes c.rounds.invariant (sym c.is_busy.ensures ∙ c.rounds-test.true))
 
-pub loop-cols-preserved : goal.loop-cols-preserved
-loop-cols-preserved c =
+pub rounds-preserved : goal.rounds-preserved
+rounds-preserved c =
     let r = c.round-r in
     let f = c.rows_after in
     let w = c.with_pass-plan in
-    make_once c.loop-cols.invariant (sym c.is_busy.ensures ∙ c.loop-cols-test.true) r.result.pass r.result.cols
+    make_once c.rounds.invariant (sym c.is_busy.ensures ∙ c.rounds-test.true) r.result.pass r.result.cols
     c.identity-q.result f.result w.result r.ensures.0 r.ensures.1 c.identity-q.ensures f.ensures w.ensures
 
 pub with_pass-requires : goal.with_pass-requires
-with_pass-requires c = make_room c.loop-cols.invariant
+with_pass-requires c = make_room c.rounds.invariant
 
 pub returns : goal.returns
 returns c =
@@ -45,5 +45,5 @@ returns c =
     let e = c.no_passes-plan in
     let f = c.rows_after-2 in
     let w = c.with_pass in
-    make_end c.loop-cols.invariant (sym c.is_busy.ensures ∙ c.loop-cols-test.false) f.result w.result f.ensures w.ensures
+    make_end c.rounds.invariant (sym c.is_busy.ensures ∙ c.rounds-test.false) f.result w.result f.ensures w.ensures
     ∙ make_whole a.g a.rows a.c a.blanks c.requires.0 long c.requires.1 o.result.cols o.result.p o.ensures.0 o.ensures.1 e.result e.ensures

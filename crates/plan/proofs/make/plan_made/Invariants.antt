@@ -4,8 +4,8 @@ use lib.ListN.{take}
 use Rattle.plan.proofs.Making.{Making, ahead}
 use Rattle.plan.proofs.make.plan_made.Given as goal
 
-abbrev pub invariant-loop-cols : goal.invariant-loop-cols
-invariant-loop-cols l = Making l.initial.plan.geometry l.initial.plan.blanks l.n l.b l.m l.c (ahead l.m l.n l.b l.m (take l.n l.initial.cols) (take l.n l.initial.q) l.c) l.plan (take l.n l.cols) (take l.n l.q) l.p
+abbrev pub invariant-rounds : goal.invariant-rounds
+invariant-rounds l = Making l.initial.plan.geometry l.initial.plan.blanks l.n l.b l.m l.c (ahead l.m l.n l.b l.m (take l.n l.initial.cols) (take l.n l.initial.q) l.c) l.plan (take l.n l.cols) (take l.n l.q) l.p
 
-abbrev pub decreases-loop-cols : goal.decreases-loop-cols
-decreases-loop-cols l = l.m - l.p
+abbrev pub decreases-rounds : goal.decreases-rounds
+decreases-rounds l = l.m - l.p

@@ -30,9 +30,8 @@ returns-then-d-gt1 c =
     c.digit_at-d.result ≡ digit_at a.text.now (a.at + (c.loop-i.i - 1)) =
     c.digit_at-d.ensures ∙ ap (digit_at _) (omega arith) in
     λ v rest e.
-    let k = c in
-    let a = k.args in
-    omega (arith, read_is, row_digit a.text.now a.at a.n v rest e (k.loop-i.i - 1) (omega arith))
+    let a = c.args in
+    omega (arith, read_is, row_digit a.text.now a.at a.n v rest e (c.loop-i.i - 1) (omega arith))
 
 pub overflow_mul-v : goal.overflow_mul-v
 overflow_mul-v c =
