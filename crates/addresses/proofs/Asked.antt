@@ -1,32 +1,37 @@
 -- What is answered to an address question? Assumes nothing.
 use mathlib.Core.Path.{◌≡◌, refl, sym, ap, ap₂, subst, ◌∙◌}
-use mathlib.Core.Bool.{Bool, true, false, not}
+use mathlib.Core.Bool.{Bool, true, false, cond, true≢false}
 use mathlib.Core.List.{[], ◌∷◌}
 use Prim.Native.Nat.{ℕ, zero, suc, ◌%◌, ◌≤◌, ◌<◌, ◌^◌}
 use native.Mathlib.Nat.{lt_of_lt_of_le, mod-eq_of_lt, mod-lt}
 use native.Mathlib.Omega.{arith}
 use borrow.Author.Tests.{le-leb, leb-false, lt-leb}
-use lib.Dec.{eqb, leb}
+use lib.Dec.{leb}
 use lib.ListN.{length-take}
 use lib.Pow.{pow_mono, pow_pos}
 use Rattle.bank.specs.Limits.{ROWS}
 use Rattle.bank.proofs.Limits.{limits→allowed}
 use Rattle.bank.specs.Geometry.{records}
 use Rattle.bank.specs.Checks.{refuse, or_later, handed}
-use Rattle.algebra.specs.Matrix.{kernel, target, source, singular}
+use Rattle.bank.specs.Refusal.{number_of, z_of}
+use Rattle.bank.specs.declared.refusal.Refusal.{Refusal}
+use Rattle.bank.specs.declared.refusal.Refusal.TheVariants.{Singular, Beyond}
+use Rattle.bank.proofs.Refusals.{refuses, z_else}
+use Rattle.std.specs.Prelude.{Result, Ok, Err}
+use Rattle.std.specs.Result.{is_err}
+use Rattle.algebra.specs.Matrix.{target, source, singular}
 use Rattle.algebra.specs.Vector.{WORD}
 use Rattle.algebra.proofs.Inverse.{target-lt}
-use Rattle.algebra.proofs.Singular.{kernel_tells}
 use Rattle.elimination.specs.Solved.{solved_for}
-use Rattle.elimination.specs.declared.questions.Solved.{Solved}
 use Rattle.order.specs.Order.{matrix_of, form_number, judgement, verdict, with_z, z_with}
 use Rattle.addresses.specs.Address.{question_number, sent_to, target_of, meaning_of, found_for}
-use Rattle.order.proofs.Judged.{formed_z, z_other, or_later_none, or_later_refuse, or_later_stops, form_none, judgement_form, judgement_formed, refuse_none}
+use Rattle.addresses.specs.Address.Source.{From, Refused}
+use Rattle.addresses.specs.Answered.{answer_of}
+use Rattle.order.proofs.Judged.{form_other, formed_z, z_other, form_z, or_later_none, or_later_refuse, or_later_stops, form_none, judgement_form, judgement_formed, refuse_none}
 use Rattle.order.proofs.Accepted.{judgement→accepted, complement_below}
 use Rattle.order.specs.declared.Order.{Order}
 use Rattle.order.specs.declared.Verdict.{Verdict}
 use Rattle.addresses.specs.declared.Target.{Target}
-use Rattle.addresses.specs.declared.Source.TheVariants.{From, Refused}
 
 -- an address of n bits is a word
 pub in_word : (n x : ℕ) → n ≤ ROWS → x < 2 ^ n → x < 2 ^ WORD
@@ -142,6 +147,28 @@ module _ (order : Order) (x : ℕ) where
   unfolding meaning_of found_for z_with
   source_given y e q = rw e (ap (λ (k : ℕ). record { number = 0; z = 0; sources = k ∷ [] }) q)
 
+  -- a refusal by the form's number
+  pub source_formless : (r : Refusal) → number_of r ≡ form_number order → meaning_of (answer_of (Err r)) ≡ found_for order x
+  source_formless r e =
+      let number = number_form (λ z. refuses r (e ∙ z)) in
+      let none = ap (λ (k : ℕ). z_with k order) number ∙ form_z order in
+      source-refused (number_of r) (z_of r).0 (e ∙ sym number) (z_else r (λ t. form_other order (sym e ∙ t)) ∙ sym none) (refuses r)
+
+-- ---- what one elimination answers
+answered : Result ℕ ℕ → ℕ
+answered (Ok y) = y
+answered (Err z) = z
+
+solved_regular : (t : Bool) (y k s : ℕ) → Ok y ≡ cond t (Err k) (Ok s) → (t ≡ false) × (y ≡ s)
+unfolding answered
+solved_regular true y k s e = absurd (true≢false (sym (ap is_err e)))
+solved_regular false y k s e = (refl, ap answered e)
+
+solved_singular : (t : Bool) (z k s : ℕ) → Err z ≡ cond t (Err k) (Ok s) → (t ≡ true) × (z ≡ k)
+unfolding answered
+solved_singular true z k s e = (refl, ap answered e)
+solved_singular false z k s e = absurd (true≢false (ap is_err e))
+
 -- ---- an order in good form, and the low n bits of x, of which one elimination tells whether A is singular, and the source
 module _ (order : Order) (x size : ℕ) (is : size ≡ records order.geometry) (form : form_number order ≡ 0) where
   pub solvable : (order.geometry.n ≤ ROWS) × (order.complement < 2 ^ order.geometry.n) × (x % size < 2 ^ order.geometry.n)
@@ -152,25 +179,32 @@ module _ (order : Order) (x size : ℕ) (is : size ≡ records order.geometry) (
         subst (λ (k : ℕ). x % k < records order.geometry) (sym is) (mod-lt x (pow_pos order.geometry.n)),
       )
 
-  module _ (s : Solved) (answer : s ≡ solved_for order.geometry.n (matrix_of order) order.complement (x % size)) where
-    z_kernel : s.kernel ≡ kernel order.geometry.n (matrix_of order)
+  pub singular_solved : (z : ℕ) → Err z ≡ solved_for order.geometry.n (matrix_of order) order.complement (x % size)
+      → meaning_of (answer_of (Err (Singular (record { 0 = z })))) ≡ found_for order x
+  unfolding solved_for
+  singular_solved z answer =
+      let far = leb (records order.geometry) x in
+      let s = solved_singular _ _ _ _ answer in
+      let number = number_formed order x form in
+      source-refused order x 3 z (sym (number ∙ ap (λ (t : Bool). refuse t 3 (refuse far 10 0)) s.0))
+      (s.1 ∙ sym (ap (λ (k : ℕ). z_with k order) number ∙ formed_z order (refuse far 10 0) (ten_not_three far))) (λ e. omega (arith, e))
+
+  module _ (y : ℕ) (answer : Ok y ≡ solved_for order.geometry.n (matrix_of order) order.complement (x % size)) where
+    solved : (singular order.geometry.n (matrix_of order) ≡ false) × (y ≡ source order.geometry.n (matrix_of order) order.complement (x % size))
     unfolding solved_for
-    z_kernel = ap (λ (s : Solved). s.kernel) answer
+    solved = solved_regular _ _ _ _ answer
 
-    pub number_solved : refuse (not (eqb s.kernel 0)) 3 (refuse (leb size x) 10 0) ≡ question_number order x
-    number_solved =
-        ap₂ (λ (t : Bool) (k : ℕ). refuse t 3 (refuse (leb k x) 10 0))
-        (ap (λ (k : ℕ). not (eqb k 0)) z_kernel ∙ kernel_tells order.geometry.n (matrix_of order)) is
-        ∙ sym (number_formed order x form)
+    taken : judgement order ≡ 0
+    taken = judgement_formed order form ∙ ap (λ (t : Bool). refuse t 3 0) solved.0
 
-    pub z_solved : s.kernel ≡ z_with (question_number order x) order
-    z_solved =
-        let far = leb (records order.geometry) x in
-        z_kernel ∙ sym (ap (λ (k : ℕ). z_with k order) (number_formed order x form) ∙ formed_z order (refuse far 10 0) (ten_not_three far))
+    pub far_solved : size ≤ x → meaning_of (answer_of (Err Beyond)) ≡ found_for order x
+    far_solved h =
+        let number = number_ten order x taken (subst (λ (k : ℕ). k ≤ x) is h) in
+        source-refused order x 10 0 (sym number) (sym (z_other order (λ e. absurd (omega (arith, sym number ∙ e))))) (λ e. omega (arith, e))
 
-    pub source_solved : question_number order x ≡ 0 → s.source ≡ source order.geometry.n (matrix_of order) order.complement x
-    unfolding solved_for
-    source_solved e =
-        let m = none_means order x e in
-        let low : x % size ≡ x = ap (λ (k : ℕ). x % k) is ∙ mod-eq_of_lt m.1 in
-        ap (λ (s : Solved). s.source) answer ∙ rw ((judgement→accepted order m.0).regular, low)
+    pub source_solved : x < size → meaning_of (answer_of (Ok (record { 0 = y }))) ≡ found_for order x
+    source_solved h =
+        let below = subst (λ (k : ℕ). x < k) is h in
+        let low : x % size ≡ x = ap (λ (k : ℕ). x % k) is ∙ mod-eq_of_lt below in
+        source_given order x y (number_none order x taken below)
+        (solved.1 ∙ ap (λ (k : ℕ). source order.geometry.n (matrix_of order) order.complement k) low)

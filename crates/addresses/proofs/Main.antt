@@ -12,9 +12,8 @@ use Rattle.algebra.proofs.Inverse.{source-lt, target-source_is}
 use Rattle.order.specs.Order.{matrix_of, judgement, z_with}
 use Rattle.order.specs.declared.Order.{Order}
 use Rattle.order.proofs.Accepted.{Accepted, judgement→accepted, complement_below, matrix_length}
-use Rattle.addresses.specs.Address.{target_of, meaning_of, found_for, sent_to}
-use Rattle.addresses.specs.declared.Source.{Source}
-use Rattle.addresses.specs.declared.Source.TheVariants.{From, Refused}
+use Rattle.addresses.specs.Address.{Source, target_of, meaning_of, found_for, sent_to}
+use Rattle.addresses.specs.Address.Source.{From, Refused}
 use Rattle.addresses.proofs.Asked.{number_none, target_given}
 
 -- ---- an order that is taken; its rows fill the room of the array

@@ -6,8 +6,7 @@ use Rattle.algebra.specs.Matrix.{target, source}
 use Rattle.order.specs.Order.{matrix_of, judgement, z_with}
 use Rattle.order.specs.declared.Order.{Order}
 use Rattle.addresses.specs.declared.Target.{Target}
-use Rattle.addresses.specs.declared.Source.{Source}
-use Rattle.addresses.specs.declared.Source.TheVariants.{From, Refused}
+use Rattle.bank.specs.declared.Address.{Address}
 
 -- the number of an address question: the order's own, then 10 for an address of N or more
 unfoldable pub question_number : Order → ℕ → ℕ
@@ -25,6 +24,11 @@ target_of order x =
       address = record { 0 = handed (question_number order x) (sent_to order x) 0 };
       z = record { 0 = z_with (question_number order x) order };
     }
+
+-- an answer to a question backwards: the source, or the number of the refusal and its z
+pub data Source : Type 0 where
+  From : Address → Source
+  Refused : ℕ → Address → Source
 
 -- what an answer to a question backwards says: its number and z, and the source, where there is one
 pub record Found : Type 0 where

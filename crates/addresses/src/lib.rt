@@ -3,12 +3,18 @@
 
 ghost use Rattle.std.specs.Prelude.{◌≡◌};
 ghost use Rattle.addresses.specs.Address.{question_number, target_of, meaning_of, found_for};
+ghost use Rattle.addresses.specs.Answered.{answer_of};
+ghost use Rattle.order.specs.Checked.{verdict_of};
 ghost use Rattle.order.specs.Order.{with_z};
 
 use bank::Address;
-use order::{Order, Verdict, form_number, judge, refuse};
+use bank::refusal::Refusal;
+use elimination::questions::solve;
+use matrix::rows::apply;
+use order::{Order, check, check_form};
 
 // Where an address goes: the number, and the address that it goes to, 0 where refused. With 3, z; 0 with every other number.
+// The demands speak of these fields (`Answers`, `Sends`), so they stay.
 #[derive(Clone, Copy)]
 pub struct Target {
     pub number: u8,
@@ -16,69 +22,52 @@ pub struct Target {
     pub z: Address,
 }
 
-// Where an address comes from, or the number of the refusal and its z.
-#[derive(Clone, Copy)]
-pub enum Source {
-    From(Address),
-    Refused(u8, Address),
-}
-
-// The number of an address question: 1, 2, 3 for the order, then 10 for the address.
-fn question(order: Order, x: Address) -> Verdict
-    ensures { result ≡ with_z (question_number order x.0) order }
+// The checks of an address question: those of the order, and then that the address is below N.
+fn check_asked(order: Order, x: Address) -> Result<(), Refusal>
+    ensures { verdict_of result ≡ with_z (question_number order x.0) order }
 {
-    let judged = judge(order);
-    if judged.number != 0 {
-        return judged;
+    check(order)?;
+    if bank::power(order.geometry.n) <= x.0 {
+        return Err(Refusal::Beyond);
     }
-    let g = order.geometry;
-    Verdict {
-        number: refuse(bank::power(g.n) <= x.0, 10, 0),
-        z: Address(0),
-    }
+    Ok(())
 }
 
 // Where the order sends x: Ax xor c.
 pub fn target_of(order: Order, x: Address) -> Target
     ensures { result ≡ target_of order x.0 }
 {
-    let asked = question(order, x);
-    let z = asked.z;
-    if asked.number != 0 {
+    if let Err(refusal) = check_asked(order, x) {
         return Target {
-            number: asked.number,
+            number: refusal.number(),
             address: Address(0),
-            z,
+            z: refusal.z(),
         };
     }
-    let g = order.geometry;
-    let rows = order.rows;
+    let n = order.geometry.n as usize;
     let from = x.0 as u32;
-    let y = matrix::rows::apply(&rows, g.n as usize, from) ^ order.complement;
+    let y = apply(&order.rows[..n], from) ^ order.complement;
     Target {
         number: 0,
-        address: Address(bank::wide(y)),
+        address: Address(u64::from(y)),
         z: Address(0),
     }
 }
 
 // The one address that the order sends to y. One elimination tells 3, z and the source, so it is asked of the low n bits of y before 10 is known.
-pub fn source_of(order: Order, y: Address) -> Source
-    ensures { meaning_of result ≡ found_for order y.0 }
+pub fn source_of(order: Order, y: Address) -> Result<Address, Refusal>
+    ensures { meaning_of (answer_of result) ≡ found_for order y.0 }
 {
-    let form = form_number(order);
-    if form != 0 {
-        return Source::Refused(form, Address(0));
-    }
-    let g = order.geometry;
-    let rows = order.rows;
-    let size = bank::power(g.n);
+    check_form(order)?;
+    let n = order.geometry.n;
+    let size = bank::power(n);
     let low = (y.0 % size) as u32;
-    let solved = elimination::questions::solve(&rows, g.n as usize, order.complement, low);
-    let z = solved.kernel;
-    let number = refuse(z != 0, 3, refuse(size <= y.0, 10, 0));
-    if number != 0 {
-        return Source::Refused(number, Address(bank::wide(z)));
+    match solve(&order.rows[..n as usize], order.complement, low) {
+        Ok(_) if size <= y.0 => Err(Refusal::Beyond),
+        Ok(x) => Ok(Address(u64::from(x))),
+        Err(z) => {
+            let z = Address(u64::from(z));
+            Err(Refusal::Singular(z))
+        }
     }
-    Source::From(Address(bank::wide(solved.source)))
 }

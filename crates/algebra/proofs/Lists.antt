@@ -58,19 +58,6 @@ padded_at [] k i = get_or_zeros k i
 padded_at (x ∷ l) k zero = refl
 padded_at (x ∷ l) k (suc i) = padded_at l k i
 
--- ---- a part of s, from place o on, copied out one by one
-pub copied_more : (l s : List ℕ) (o i : ℕ) → i < length l → ((k : ℕ) → k < i → get_or l k 0 ≡ get_or s (o + k) 0)
-    → (k : ℕ) → k < i + 1 → get_or (set l i (get_or s (o + i) 0)) k 0 ≡ get_or s (o + k) 0
-copied_more l s o i h all =
-    below_more (λ (k : ℕ). get_or (set l i (get_or s (o + i) 0)) k 0 ≡ get_or s (o + k) 0) i
-    (λ k b. get_or-set_other l i k (get_or s (o + i) 0) 0 (λ e. omega arith) ∙ all k b)
-    (get_or-set_same l i (get_or s (o + i) 0) 0 h)
-
-pub copied_whole : (l s : List ℕ) (o n : ℕ) → o + n ≤ length s → length l ≡ n → ((k : ℕ) → k < n → get_or l k 0 ≡ get_or s (o + k) 0) → l ≡ take n (drop o s)
-copied_whole l s o n h e all =
-    ext_get_or 0 l (take n (drop o s)) (e ∙ sym (length-take-le n (drop o s) (simp length-drop (omega arith))))
-    (λ k b. all k (omega arith) ∙ sym (get_or-take n (drop o s) k 0 (omega arith) ∙ get_or-drop o s k 0))
-
 -- ---- what a list holds after a copy of n elements of s to the place at
 module _ (d s : List ℕ) (at n : ℕ) (room : at + n ≤ length d) (long : n ≤ length s) where
   pub paste_before : (q : ℕ) → q < at → get_or (paste d at s n) q 0 ≡ get_or d q 0

@@ -18,37 +18,6 @@ use Rattle.algebra.specs.Elimination.{Echelon, grown, rest, used, with_entry}
 use Rattle.algebra.specs.Matrix.{applied}
 use Rattle.algebra.specs.Vector.{bit, comb, parity, unless_zero}
 
--- ---- applying: no row yet
-pub apply_start : (rows : List ℕ) (n x : ℕ) → applied (drop n (take n rows)) x ≡ 0
-unfolding applied
-apply_start rows n x = ap (λ (l : List ℕ). applied l x) (drop_of_length-le (take n rows) {i = n} (simp length-take (omega arith)))
-
--- one row more, from the back
-back : (rows : List ℕ) (n i x : ℕ) → i < n
-    → applied (drop (suc i) (take n rows)) x * 2 + parity (bit_and (get_or rows i 0) x) ≡ applied (drop i (take n rows)) x
-unfolding applied parity ones
-back rows zero i x h = absurd (not-suc-le-zero h)
-back [] (suc n) zero x h = refl
-back [] (suc n) (suc i) x h = refl
-back (r ∷ rs) (suc n) zero x h = refl
-back (r ∷ rs) (suc n) (suc i) x h = back rs n i x (le_of_suc-le-suc h)
-
-apply_back : (rows : List ℕ) (n i x : ℕ) → 0 < i → i ≤ n
-    → applied (drop i (take n rows)) x * 2 + parity (bit_and (get_or rows (i - 1) 0) x) ≡ applied (drop (i - 1) (take n rows)) x
-apply_back rows n zero x p h = absurd (not-suc-le-zero p)
-apply_back rows n (suc i) x p h = rw (sub-one (suc i)) (back rows n i x h)
-
--- no longer than k past place i: k bits
-pub apply_tight : (k : ℕ) (rows : List ℕ) (n i x : ℕ) → n ≤ k + i → applied (drop i (take n rows)) x < 2 ^ k
-apply_tight k rows n i x h = lt_of_lt_of_le (apply_lt (drop i (take n rows)) x) (pow_mono (simp (length-drop, length-take) (omega arith)))
-
--- the rows from place f on
-pub part_once : (rows : List ℕ) (f n i x r p : ℕ) → 0 < i → i ≤ n → r ≡ applied (drop i (take n (drop f rows))) x
-    → p ≡ parity (bit_and (get_or rows (f + (i - 1)) 0) x) → r * 2 + p ≡ applied (drop (i - 1) (take n (drop f rows))) x
-part_once rows f n i x r p h l hr hp =
-    ap₂ (λ (a b : ℕ). a * 2 + b) hr (hp ∙ ap (λ (k : ℕ). parity (bit_and k x)) (sym (get_or-drop f rows (i - 1) 0)))
-    ∙ apply_back (drop f rows) n i x h l
-
 -- ---- reducing: one entry more
 module _ (ws qs : List ℕ) (i v u d r : ℕ) (hu : u ≡ rest ws qs i v) (hd : d ≡ bit u (get_or qs i 0)) where
   pub rest_once : r ≡ unless_zero d (get_or ws i 0) → bit_xor u r ≡ rest ws qs (i + 1) v

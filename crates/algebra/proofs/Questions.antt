@@ -29,11 +29,6 @@ use Rattle.algebra.specs.Elimination.{Echelon, built, used}
 use Rattle.algebra.specs.Matrix.{applied, columns, inverse, kernel, marked, singular, source, spills}
 use Rattle.algebra.specs.Vector.{WORD, comb}
 
--- ---- all of the first n rows, as a part of the rows
-pub columns_whole : (room n : ℕ) (rows cols : List ℕ)
-    → cols ≡ columns n (take (n - 0) rows) ++ replicate (room - n) 0 → cols ≡ columns n (take n rows) ++ replicate (room - n) 0
-columns_whole room n rows cols e = e ∙ ap (λ (k : ℕ). columns n (take k rows) ++ replicate (room - n) 0) (sub-zero n)
-
 -- what the entries of the columns before column j leave of it: its tag is 2 ^ j and a sum of those columns
 pub record Leaves (n : ℕ) (rows : List ℕ) (j left tag : ℕ) : Type 0 where
   pub sum : ℕ

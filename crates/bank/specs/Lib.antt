@@ -2,3 +2,4 @@
 pub mod Limits
 pub mod Geometry
 pub mod Checks
+pub mod Refusal

@@ -2,6 +2,8 @@
 // The limits stand here for the code and in specs/Limits.antt for the definitions, and nowhere else.
 #![tactic(auto)]
 
+pub mod refusal; // refusal.rt: why a call refuses, and by which number
+
 ghost use Rattle.std.specs.Prelude.{◌≡◌, ◌<◌, ◌^◌};
 ghost use Rattle.bank.specs.Geometry.{in_limits};
 
@@ -21,7 +23,7 @@ const BYTES: u32 = 256;
 pub const WORD: u32 = 32;
 
 // 2^n records in blocks of 2^b on 2^d drives, a memory of 2^m records, records of r bytes.
-#[derive(Clone, Copy)]
+#[derive(Clone, Copy, Debug, PartialEq, Eq)]
 pub struct Geometry {
     pub n: u32,
     pub b: u32,
@@ -31,18 +33,19 @@ pub struct Geometry {
 }
 
 // A record's address in an area.
-#[derive(Clone, Copy)]
+#[derive(Clone, Copy, Debug, PartialEq, Eq)]
 pub struct Address(pub u64);
 
 // A step's number in a plan.
-#[derive(Clone, Copy)]
+#[derive(Clone, Copy, Debug, PartialEq, Eq)]
 pub struct Step(pub u64);
 
 // A block's number in an area.
-#[derive(Clone, Copy)]
+#[derive(Clone, Copy, Debug, PartialEq, Eq)]
 pub struct Block(pub u64);
 
-// Whether the geometry is inside the limits. No sum is taken that could wrap.
+// Whether the geometry is inside the limits. No sum is taken that could wrap. Functions that ask it of a geometry take the one of a plan or an order,
+// of which it is known: a type for it would be made for one call each time.
 pub fn in_limits(g: Geometry) -> bool
     ensures { result ≡ in_limits g }
 {
@@ -76,11 +79,4 @@ pub fn power(k: u32) -> u64
     ensures { result ≡ 2 ^ k }
 {
     1u64 << k
-}
-
-// The same number, in more bits.
-pub fn wide(x: u32) -> u64
-    ensures { result ≡ x }
-{
-    x as u64
 }

@@ -18,7 +18,7 @@ use Rattle.moving.specs.Bytes.{copied}
 use Rattle.moving.specs.Step.{write_from, write_takes}
 use Rattle.planning.specs.Pass.{Pass}
 use Rattle.planning.specs.Inner.{PassRuns}
-use Rattle.tables.proofs.Columns.{all-columns, part_blocks, part_columns}
+use Rattle.tables.proofs.Columns.{all-columns, front_columns, part_blocks, part_columns}
 use Rattle.algebra.specs.Carry.{place_by}
 use Rattle.blocks.specs.Places.{drive_place, on_drives}
 use Rattle.blocks.specs.Moving.{WriteReady}
@@ -48,7 +48,7 @@ module _ {t : Tables} {load tier : ℕ} {area mem : List ℕ} (k : WriteReady t 
 
   -- the three lists of columns, as parts of the tables
   abbrev cols : List ℕ
-  cols = take (g.b - 0) (drop 0 t.columns)
+  cols = take g.b t.columns
 
   abbrev places : List ℕ
   places = take (g.b + g.d - g.b) (drop g.b t.columns)
@@ -84,7 +84,7 @@ module _ {t : Tables} {load tier : ℕ} {area mem : List ℕ} (k : WriteReady t 
         ap₂ bit_xor
         (ap₂ (λ (y : ℕ) (l : List ℕ). bit_xor y (comb l q)) place_is
         (part_columns k.prepared g.b (g.b + g.d) g.d refl ok.drives_fit))
-        (ap (λ (l : List ℕ). comb l j) (part_columns k.prepared 0 g.b g.b (omega arith) (omega (arith, ok.block_below))))
+        (ap (λ (l : List ℕ). comb l j) (front_columns k.prepared g.b (omega (arith, ok.block_below))))
 
     pub on_drive : (q : ℕ) → q < D → place_by first blocks q % D ≡ q
     on_drive q h = rw (block_same q) (code_drive g ok pass runs load tier k.in_load_lem.load_in k.in_load_lem.tier_in q h)

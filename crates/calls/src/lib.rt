@@ -5,9 +5,11 @@
 ghost use Rattle.std.specs.Prelude.{◌≡◌};
 ghost use Rattle.moving.specs.Step.{buffers_of};
 ghost use Rattle.moving.specs.Call.{lent};
+ghost use Rattle.addresses.specs.Answered.{answer_of};
 ghost use Rattle.demands.specs.Ours.{ours};
 
-use addresses::{Source, Target};
+use addresses::Target;
+use bank::refusal::Refusal;
 use bank::{Address, Step};
 use lists::Recognised;
 use mover::run::Ran;
@@ -30,8 +32,8 @@ fn target_of(order: Order, x: Address) -> Target
     addresses::target_of(order, x)
 }
 
-fn source_of(order: Order, y: Address) -> Source
-    ensures { ours.finds order y.0 result }
+fn source_of(order: Order, y: Address) -> Result<Address, Refusal>
+    ensures { ours.finds order y.0 (answer_of result) }
 {
     addresses::source_of(order, y)
 }

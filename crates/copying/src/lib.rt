@@ -11,11 +11,7 @@ pub fn copy_into(dst: &mut [u8], src: &[u8])
     requires { length dst.old ≡ length src.now }
     ensures { dst.new ≡ src.now }
 {
-    let mut i = 0;
-    while i < src.len() {
-        dst[i] = src[i];
-        i += 1;
-    }
+    dst.copy_from_slice(src);
 }
 
 // dst with all of src from index at on.
@@ -31,11 +27,7 @@ pub fn copy_part(dst: &mut [u8], at: usize, src: &[u8])
 pub fn clear(dst: &mut [u8])
     ensures { dst.new ≡ replicate (length dst.old) 0 }
 {
-    let mut i = 0;
-    while i < dst.len() {
-        dst[i] = 0;
-        i += 1;
-    }
+    dst.fill(0);
 }
 
 // dst with its n bytes from index at on zero.

@@ -6,12 +6,5 @@ ghost use Rattle.moving.specs.Bytes.{AllZero};
 pub fn all_zero(bytes: &[u8]) -> bool
     ensures { (result ≡ true) ↔ AllZero bytes.now }
 {
-    let mut i = 0;
-    while i < bytes.len() {
-        if bytes[i] != 0 {
-            return false;
-        }
-        i += 1;
-    }
-    true
+    bytes.iter().all(|x| *x == 0)
 }

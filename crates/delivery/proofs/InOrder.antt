@@ -157,7 +157,7 @@ module _ (order : Order) (room : length order.rows ≡ ROWS) (taken : judgement 
         rw (← e, is_plan)
         (ap (λ (u : Buffers). buffers_of (area_named (result_area plan) u) (taken_from (result_area plan) blanks u.area1) u.memory) sent-all)
 
-    pub sent-set : SetBy order blanks v w (result_area p)
+    sent-set : SetBy order blanks v w (result_area p)
     unfolding area_named
     sent-set =
         record {
@@ -166,3 +166,9 @@ module _ (order : Order) (room : length order.rows ≡ ROWS) (taken : judgement 
           zeroth = λ ne.
               ap (λ (l : List ℕ). buffers_of w.area0 l w.memory) (sym (taken_none blanks w.area1)) ∙ set_by 0 (omega (arith, result_small p));
         }
+
+-- the same, by what code knows once it has sent the steps
+pub sent→set : {order : Order} {blanks : Bool} (again : ℕ) {v w : Buffers} {p : Plan} → (judgement order ≡ 0) × (length order.rows ≡ ROWS)
+    → buffers_fit order.geometry v ≡ true → p ≡ plan_for order.geometry (matrix_of order) order.complement blanks
+    → w ≡ (asked_in_turn p again (total_steps p) (begun v)).buffers → SetBy order blanks v w (result_area p)
+sent→set {order} {blanks} again {v} {w} {p} known fitting made sent = sent-set order known.1 known.0 blanks v fitting p made again w sent

@@ -2,7 +2,7 @@
 use mathlib.Core.Path.{◌≡◌, refl, sym, ◌∙◌, subst}
 use mathlib.Core.Bool.{Bool, true, false}
 use mathlib.Core.List.{List, ◌++◌}
-use Prim.Native.Nat.{ℕ, zero, suc, ◌-◌, ◌<◌, ◌≤◌}
+use Prim.Native.Nat.{ℕ, zero, suc, ◌<◌, ◌≤◌}
 use native.Mathlib.Omega.{arith}
 use borrow.Author.Tests.{le-leb, lt-leb}
 use lib.Dec.{leb}
@@ -31,7 +31,7 @@ unread_promise text blanks v (suc k) order z r ne =
 -- ---- the lengths
 
 -- a text that isn't refused has no z
-pub read_none : {text : List ℕ} {k : ℕ} {order : Order} {z : ℕ} → Reads text k order z → k ≡ 0 → Reads text 0 order 0
+read_none : {text : List ℕ} {k : ℕ} {order : Order} {z : ℕ} → Reads text k order z → k ≡ 0 → Reads text 0 order 0
 read_none {text} {k} {order} {z} r e =
     let none = ours_answers.explained.of_text text k order z r (λ q. omega (arith, e, q)) in
     subst (λ (j : ℕ). Reads text j order 0) e (subst (Reads text k order) none r)
@@ -42,9 +42,9 @@ pub record Measured (text : List ℕ) (order : Order) (s k : ℕ) : Type 0 where
   pub is_run : s ≡ area_bytes order.geometry
   pub is_memory : k ≡ memory_bytes order.geometry
 
--- as long as parts from 0 on
-pub from_start : {text : List ℕ} {order : Order} {s k : ℕ} → Measured text order s k → Measured text order (s - 0) (k - 0)
-from_start m = record { read = m.read; is_run = omega (arith, m.is_run); is_memory = omega (arith, m.is_memory) }
+pub measured : {text : List ℕ} {number : ℕ} {order : Order} {z s k : ℕ} → Reads text number order z → number ≡ 0
+    → s ≡ area_bytes order.geometry → k ≡ memory_bytes order.geometry → Measured text order s k
+measured r e size room = record { read = read_none r e; is_run = size; is_memory = room }
 
 module _ {text : List ℕ} {order : Order} {s k : ℕ} (m : Measured text order s k) (blanks : Bool) (v : Buffers) where
   abbrev g : Geometry

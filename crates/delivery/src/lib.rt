@@ -1,23 +1,25 @@
 // A run is set in tray order on lent bytes: its order text is read, planned, and every step of the plan sent.
 #![tactic(auto)]
 
-ghost use Rattle.std.specs.Prelude.{◌≡◌, true, length};
+ghost use Rattle.std.specs.Prelude.{◌≡◌, ◌≤◌, ◌*◌, ◌^◌, true, length};
 ghost use Rattle.bank.specs.Limits;
 ghost use Rattle.bank.specs.Geometry.{in_limits};
 ghost use Rattle.order.specs.Order.{judgement};
-ghost use Rattle.moving.specs.Step.{buffers_of, area_bytes, memory_bytes, buffers_fit};
+ghost use Rattle.moving.specs.Step.{buffers_of, buffers_fit};
 ghost use Rattle.delivery.specs.Delivery.{set_in_order, DeliveryPromise};
 
-use bank::{Address, Geometry, power, wide};
+use bank::refusal::Refusal;
+use bank::{Address, Geometry, power};
 use copying::{clear, copy_into};
 use order::Order;
 use plan::make::plan_for;
-use reading::read_order;
+use reading::{Read, read_order};
 use sending::progress::Progress;
 use sending::send_all;
 use totals::result_area;
 
 // Done; refused by a number, and z with 3, 0 with every other; or the run, of so many bytes, has no room in the buffers.
+// The theorem `delivery_outcome` speaks of these cases, so they stay as they are.
 #[derive(Clone, Copy)]
 pub enum Delivery {
     Done,
@@ -25,23 +27,15 @@ pub enum Delivery {
     NoRoom(u64),
 }
 
-// N·R, the bytes of an area, which are those of a run.
-fn area_bytes(g: Geometry) -> u64
-    requires { in_limits g ≡ true }
-    ensures { result ≡ area_bytes g }
+// 2^k·R, the bytes of 2^k records: of an area for n, of a memory for m.
+fn bytes_of(g: Geometry, k: u32) -> u64
+    requires { (in_limits g ≡ true) × (k ≤ g.n) }
+    ensures { result ≡ 2 ^ k * g.r }
 {
-    power(g.n) * wide(g.r)
+    power(k) * u64::from(g.r)
 }
 
-// M·R, the bytes of a memory.
-fn memory_bytes(g: Geometry) -> u64
-    requires { in_limits g ≡ true }
-    ensures { result ≡ memory_bytes g }
-{
-    power(g.m) * wide(g.r)
-}
-
-// Every step of the order's plan is sent, and the result, where it lies in area 1, goes to area 0; where the spent area is to
+// The buffers come one by one, as `deliver` is lent them. Every step of the order's plan is sent, and the result, where it lies in area 1, goes to area 0; where the spent area is to
 // be blanked, area 1 is spent then too. The order was judged when it was read.
 fn set_in_order<R: Eprint>(
     rt: &R,
@@ -58,8 +52,12 @@ fn set_in_order<R: Eprint>(
     ensures { buffers_of area0.new area1.new memory.new
         ≡ set_in_order order blanks (buffers_of area0.old area1.old memory.old) }
 {
-    let rows = order.rows;
-    let plan = plan_for(order.geometry, rows, order.complement, blanks);
+    let Order {
+        geometry,
+        rows,
+        complement,
+    } = order;
+    let plan = plan_for(geometry, rows, complement, blanks);
     send_all(rt, plan, again, progress, area0, area1, memory);
     if result_area(plan) == 1 {
         copy_into(area0, area1);
@@ -83,33 +81,22 @@ pub fn deliver<R: Eprint>(
     ensures { DeliveryPromise text.now blanks (buffers_of run.old spare.old memory.old) result
         (buffers_of run.new spare.new memory.new) }
 {
-    let read = read_order(text);
-    let z = read.z;
-    if read.number != 0 {
-        return Delivery::Refused(read.number, z);
+    let Read { number, order, z } = read_order(text);
+    if number != 0 {
+        return Delivery::Refused(number, z);
     }
-    let order = read.order;
     let g = order.geometry;
-    let size = area_bytes(g) as usize;
-    let room = memory_bytes(g) as usize;
-    if spare.len() < size {
-        return Delivery::NoRoom(size as u64);
-    }
-    if memory.len() < room {
+    // A usize has 64 bits, so `as` cuts nothing off.
+    let size = bytes_of(g, g.n) as usize;
+    let room = bytes_of(g, g.m) as usize;
+    if spare.len() < size || memory.len() < room {
         return Delivery::NoRoom(size as u64);
     }
     if run.len() != size {
-        return Delivery::Refused(4, Address(0));
+        return Delivery::Refused(Refusal::Length.number(), Address(0));
     }
-    set_in_order(
-        rt,
-        order,
-        blanks,
-        again,
-        progress,
-        run,
-        &mut spare[0..size],
-        &mut memory[0..room],
-    );
+    let spare = &mut spare[..size];
+    let memory = &mut memory[..room];
+    set_in_order(rt, order, blanks, again, progress, run, spare, memory);
     Delivery::Done
 }

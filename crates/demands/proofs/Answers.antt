@@ -8,8 +8,8 @@ use lib.ListN.{length}
 use Rattle.algebra.specs.Matrix.{source}
 use Rattle.order.specs.declared.Order.{Order}
 use Rattle.addresses.specs.declared.Target.{Target}
-use Rattle.addresses.specs.declared.Source.{Source}
-use Rattle.addresses.specs.declared.Source.TheVariants as answer
+use Rattle.addresses.specs.Address.{Source}
+use Rattle.addresses.specs.Address.{Source as answer}
 use Rattle.order.specs.Order.{matrix_of, with_z, z_with}
 use Rattle.addresses.specs.Address.{Found, found_for, meaning_of, question_number, target_of}
 use Rattle.addresses.proofs.Asked.{source_given, source-refused, target-refused}

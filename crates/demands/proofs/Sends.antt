@@ -11,7 +11,7 @@ use Rattle.algebra.specs.Matrix.{singular}
 use Rattle.bank.specs.Geometry.{in_limits, records}
 use Rattle.bank.specs.Limits.{ROWS}
 use Rattle.order.specs.declared.Order.{Order}
-use Rattle.addresses.specs.declared.Source.{Source}
+use Rattle.addresses.specs.Address.{Source}
 use Rattle.order.specs.Order.{bad_form, judgement, matrix_of}
 use Rattle.addresses.specs.Address.{Found, found_for, meaning_of, question_number, target_of}
 use Rattle.addresses.proofs.Asked.{number_none, number_order, number_ten, target_number}

@@ -13,7 +13,7 @@ use Rattle.algebra.proofs.Singular.{kernel_killed, kernel-least, target_inj, tar
 use Rattle.algebra.specs.Matrix.{applied, kernel}
 use Rattle.bank.specs.declared.Geometry.{Geometry}
 use Rattle.order.specs.declared.Order.{Order}
-use Rattle.addresses.specs.declared.Source.{Source}
+use Rattle.addresses.specs.Address.{Source}
 use Rattle.order.specs.Order.{judgement, matrix_of, z_with}
 use Rattle.addresses.specs.Address.{Found, found_for, meaning_of, question_number, sent_to, target_of}
 use Rattle.addresses.proofs.Asked.{question_three}

@@ -2,7 +2,7 @@
 -- That every call takes any input and ends is said by its contract: none has a `requires`, and the proof of each says that it returns.
 use Rattle.std.specs.Prelude.{◌≡◌, Bool, true, List, [], ◌++◌, ℕ, ◌+◌, ◌-◌, ◌<◌, ◌≤◌, min, length, take, drop}
 use Rattle.order.specs.declared.Order.{Order}
-use Rattle.addresses.specs.declared.Source.{Source}
+use Rattle.addresses.specs.Address.{Source}
 use Rattle.addresses.specs.Address.{meaning_of}
 use Rattle.planning.specs.declared.Plan.{Plan}
 use Rattle.planning.specs.Stored.{empty_plan}

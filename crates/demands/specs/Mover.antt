@@ -3,7 +3,7 @@ use Rattle.std.specs.Prelude.{Bool, List, ℕ}
 use Rattle.order.specs.declared.Order.{Order}
 use Rattle.order.specs.declared.Verdict.{Verdict}
 use Rattle.addresses.specs.declared.Target.{Target}
-use Rattle.addresses.specs.declared.Source.{Source}
+use Rattle.addresses.specs.Address.{Source}
 use Rattle.planning.specs.declared.Plan.{Plan}
 use Rattle.planning.specs.declared.state.State.{State}
 use Rattle.plan.specs.declared.make.Planned.{Planned}

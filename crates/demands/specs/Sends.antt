@@ -5,7 +5,7 @@ use Rattle.algebra.specs.Vector.{WORD}
 use Rattle.bank.specs.Limits.{ROWS}
 use Rattle.bank.specs.Geometry.{in_limits, records}
 use Rattle.order.specs.declared.Order.{Order}
-use Rattle.addresses.specs.declared.Source.{Source}
+use Rattle.addresses.specs.Address.{Source}
 use Rattle.order.specs.Order.{Words, bad_form}
 use Rattle.addresses.specs.Address.{meaning_of, sent_to}
 use Rattle.demands.specs.Mover.{Mover}

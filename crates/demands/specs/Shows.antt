@@ -3,7 +3,7 @@ use Rattle.std.specs.Prelude.{◌≡◌, Bool, List, ℕ, ◌<◌}
 use Rattle.std.specs.Int.Bits.{bit_xor}
 use Rattle.bank.specs.declared.Geometry.{Geometry}
 use Rattle.order.specs.declared.Order.{Order}
-use Rattle.addresses.specs.declared.Source.{Source}
+use Rattle.addresses.specs.Address.{Source}
 use Rattle.addresses.specs.Address.{meaning_of, sent_to}
 use Rattle.reading.specs.Reading.{Whole}
 use Rattle.demands.specs.Mover.{Mover}

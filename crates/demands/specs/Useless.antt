@@ -8,7 +8,7 @@ use Rattle.bank.specs.Geometry.{in_limits}
 use Rattle.order.specs.declared.Order.{Order}
 use Rattle.order.specs.declared.Verdict.{Verdict}
 use Rattle.addresses.specs.declared.Target.{Target}
-use Rattle.addresses.specs.declared.Source.TheVariants.{Refused as NoSource}
+use Rattle.addresses.specs.Address.Source.{Refused as NoSource}
 use Rattle.order.specs.Order.{judgement, matrix_of, verdict, with_z, z_with}
 use Rattle.addresses.specs.Address.{question_number, target_of}
 use Rattle.planning.specs.declared.Plan.{Plan}

@@ -2,7 +2,7 @@
 // What finds, judges, moves and marks is in the crates below; here are the words of the lessons, and the wrong mover that they warn of.
 #![tactic(auto)]
 
-mod say; // say.rt: words, numbers and bits on standard output
+mod say; // say.rt: rows of bits
 mod wrong; // wrong.rt: THE WRONG MOVER, for the first lesson alone
 mod late; // late.rt: the first lesson, the late answer
 mod busy; // busy.rt: the second lesson, the busy matrix
@@ -11,28 +11,17 @@ mod round; // round.rt: the question round
 use reading::{read_order, text_room};
 use std::io;
 use std::rt::{Env, Files};
-use streams::{WORD, fill};
-use writing::refusal::{REFUSAL, write_refusal};
+use streams::{WORD, fill, word, word_count};
+use writing::refusal::RefusalLine;
 
-// Standard error's handle is `err`: the lines go there as bytes, since a path need not be text.
-fn error<E: Print>(err: &E, w: &[u8]) -> io::Result<()> {
-    err.write_all(w)
-}
-
-fn call<E: Print>(err: &E) -> io::Result<()> {
-    error(
-        err,
-        b": drill [ORDER] < ANSWERS, where ORDER is a file with an order text\n",
-    )
-}
+// How to call it, on standard error, whose handle is `err`.
+const CALL: &str = "drill [ORDER] < ANSWERS, where ORDER is a file with an order text";
 
 // A round on the order of a text.
 fn question_round<R: Input + Print, E: Print>(rt: &R, err: &E, text: &[u8]) -> io::Result<()> {
     let read = read_order(text);
     if read.number != 0 {
-        let mut line = [0u8; REFUSAL];
-        let k = write_refusal(read.number, read.z, &mut line);
-        return error(err, &line[..k]);
+        return err.write_all(RefusalLine::of(read.number, read.z).bytes());
     }
     round::hold(rt, read.order)
 }
@@ -40,11 +29,11 @@ fn question_round<R: Input + Print, E: Print>(rt: &R, err: &E, text: &[u8]) -> i
 // A round on the order in the file that the first word names.
 fn named<R: Env + Files + Input + Print, E: Print>(rt: &R, err: &E) -> io::Result<()> {
     let mut path = [0u8; WORD];
-    let length = streams::word(rt, 1, &mut path);
-    let Ok(mut order) = streams::open(rt, &path[..length]) else {
-        error(err, &path[..length])?;
-        error(err, b" can't be opened")?;
-        return call(err);
+    let name = word(rt, 1, &mut path);
+    let Ok(mut order) = streams::open(rt, name) else {
+        // The path goes there as bytes, since it need not be text.
+        err.write_all(name)?;
+        return println!(err; " can't be opened: {CALL}");
     };
     let mut text = text_room();
     let n = fill(&mut order, &mut text);
@@ -55,16 +44,15 @@ fn named<R: Env + Files + Input + Print, E: Print>(rt: &R, err: &E) -> io::Resul
 fn lessons<R: Input + Print + Eprint, E: Print>(rt: &R, err: &E, text: &[u8]) -> io::Result<()> {
     late::tell(rt, text)?;
     busy::tell(rt)?;
-    say::words(rt, b"\nQuestions on the order of lesson 1\n\n")?;
+    print!(rt; "\nQuestions on the order of lesson 1\n\n")?;
     question_round(rt, err, text)
 }
 
 fn main(rt: HostRuntime) -> io::Result<()> {
     let err = rt.stderr();
-    let count = streams::word_count(&rt);
+    let count = word_count(&rt);
     if 2 < count {
-        error(&err, b"too many words")?;
-        return call(&err);
+        return println!(&err; "too many words: {CALL}");
     }
     if count == 2 {
         return named(&rt, &err);

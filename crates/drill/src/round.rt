@@ -1,8 +1,8 @@
 // The question round: where does an address go?
 use crate::say;
-use crate::say::{bits, count, number, words};
+use crate::say::Bits;
 use addresses::target_of;
-use bank::{Address, ROWS, power, wide};
+use bank::{Address, power};
 use lessons::{Mark, mark_of};
 use matrix::vector::bit_of;
 use order::Order;
@@ -13,131 +13,96 @@ use streams::fill;
 // The longest answer; a longer line is taken in parts.
 const LINE: usize = 80;
 
-// What became of a question.
-#[derive(Clone, Copy)]
-enum Asked {
-    Right,
-    Wrong,
-    Unanswered,
-}
-
-// The byte's number, in more bits.
-fn code(byte: u8) -> u32 {
-    byte as u32
-}
-
-// The next byte of the answers, or 256 at their end.
-fn next_byte<I: Read>(answers: &mut I) -> u32 {
+// The next byte of the answers; none at their end.
+fn next_byte<I: Read>(answers: &mut I) -> Option<u8> {
     let mut one = [0u8; 1];
     if fill(answers, &mut one) == 0 {
-        return 256;
-    }
-    code(one[0])
-}
-
-// A line of the answers: its length, or more than a line has at the end of the input.
-fn line<I: Read>(answers: &mut I, into: &mut [u8; LINE]) -> usize {
-    let mut n = 0;
-    while n < LINE {
-        let b = next_byte(answers);
-        if b == 10 {
-            return n;
-        }
-        if b == 256 {
-            return if n == 0 { LINE + 1 } else { n };
-        }
-        into[n] = (b % 256) as u8;
-        n += 1;
-    }
-    n
-}
-
-// Whether the first n bytes of a line are the right answer.
-fn is_right(order: Order, x: u32, answer: &[u8; LINE], n: usize) -> bool {
-    let bytes = &answer[..];
-    if bytes.len() < n {
-        return false;
-    }
-    if let Mark::Right = mark_of(order, Address(x as u64), &bytes[0..n]) {
-        true
+        None
     } else {
-        false
+        Some(one[0])
     }
+}
+
+// A line of the answers, without its end; none at the end of the input.
+fn line<'a, I: Read>(answers: &mut I, into: &'a mut [u8; LINE]) -> Option<&'a [u8]> {
+    for n in 0..LINE {
+        match next_byte(answers) {
+            Some(b'\n') => return Some(&into[..n]),
+            Some(byte) => into[n] = byte,
+            None if n == 0 => return None,
+            None => return Some(&into[..n]),
+        }
+    }
+    Some(&into[..])
 }
 
 // Bit i of Ax xor c, from the ones that row i and x have in the same place and from bit i of c.
 fn work_out_bit<R: Print>(
     rt: &R,
-    row: u32,
+    order: Order,
     x: u32,
-    complement: u32,
     y: u32,
     i: u32,
-    n: u32,
+    row: u32,
 ) -> io::Result<()> {
-    number(rt, b"  bit ", i as u64)?;
-    words(rt, b": row ")?;
-    bits(rt, row, n)?;
-    words(rt, b", address ")?;
-    bits(rt, x, n)?;
-    number(rt, b", ones in both ", wide(u32::count_ones(row & x)))?;
-    number(rt, b", c has ", wide(bit_of(complement, i)))?;
-    number(rt, b", so ", wide(bit_of(y, i)))?;
-    words(rt, b"\n")
+    let n = order.geometry.n;
+    println!(rt;
+        "  bit {i}: row {}, address {}, ones in both {}, c has {}, so {}",
+        Bits { vector: row, n },
+        Bits { vector: x, n },
+        (row & x).count_ones(),
+        bit_of(order.complement, i),
+        bit_of(y, i)
+    )
 }
 
 // Ax xor c, bit by bit.
 fn work_out<R: Print>(rt: &R, order: Order, x: u32, y: u32) -> io::Result<()> {
-    let rows = order.rows;
     let n = order.geometry.n;
-    let mut i = 0;
-    while i < ROWS {
-        if (i as u32) < n {
-            work_out_bit(rt, rows[i], x, order.complement, y, i as u32, n)?;
-        }
-        i += 1;
+    for (i, row) in (0..n).zip(order.rows) {
+        work_out_bit(rt, order, x, y, i, row)?;
     }
-    number(rt, b"  address ", x as u64)?;
-    words(rt, b" goes to ")?;
-    bits(rt, y, n)?;
-    number(rt, b", which is ", y as u64)?;
-    words(rt, b"\n")
+    println!(rt;
+        "  address {x} goes to {}, which is {y}",
+        Bits { vector: y, n }
+    )
 }
 
 // The order, and how a target is worked out.
 fn show<R: Print>(rt: &R, order: Order) -> io::Result<()> {
-    let rows = order.rows;
     let n = order.geometry.n;
-    words(rt, b"The rows of A, and c, bit 0 first:\n")?;
-    say::rows(rt, &rows, n)?;
-    words(rt, b"  c: ")?;
-    bits(rt, order.complement, n)?;
-    words(
-        rt,
-        b"\nBit i of the target is 1 where row i and the address have an odd number of ones in both.\n",
-    )?;
-    words(rt, b"Where c has a 1, it is the other way round.\n")
+    println!(rt; "The rows of A, and c, bit 0 first:")?;
+    say::rows(rt, &order.rows, n)?;
+    print!(rt;
+        "  c: {}\n\
+        Bit i of the target is 1 where row i and the address have an odd number of ones in both.\n\
+        Where c has a 1, it is the other way round.\n",
+        Bits {
+            vector: order.complement,
+            n
+        }
+    )
 }
 
-// Asks for the target of x, and marks the answer.
-fn ask<R: Print, I: Read>(rt: &R, answers: &mut I, order: Order, x: u32) -> io::Result<Asked> {
-    number(rt, b"Where does address ", x as u64)?;
-    words(rt, b" go?\n")?;
-    let mut answer = [0u8; LINE];
-    let n = line(answers, &mut answer);
-    if LINE < n {
-        return Ok(Asked::Unanswered);
-    }
-    let target = target_of(order, Address(x as u64));
+// Asks for the target of x, and marks the answer: whether it was right, where there was one.
+fn ask<R: Print, I: Read>(
+    rt: &R,
+    answers: &mut I,
+    order: Order,
+    x: u32,
+) -> io::Result<Option<bool>> {
+    println!(rt; "Where does address {x} go?")?;
+    let mut room = [0u8; LINE];
+    let Some(answer) = line(answers, &mut room) else {
+        return Ok(None);
+    };
+    let address = Address(u64::from(x));
+    let target = target_of(order, address);
     let y = (target.address.0 % 4294967296) as u32;
-    if is_right(order, x, &answer, n) {
-        words(rt, b"Right.\n")?;
-        work_out(rt, order, x, y)?;
-        return Ok(Asked::Right);
-    }
-    words(rt, b"Wrong.\n")?;
+    let right = mark_of(order, address, answer) == Mark::Right;
+    println!(rt; "{}", if right { "Right." } else { "Wrong." })?;
     work_out(rt, order, x, y)?;
-    Ok(Asked::Wrong)
+    Ok(Some(right))
 }
 
 // Questions until the input ends, or 2^32 - 1 are asked: address 3 first, then each time 5 further, round and round.
@@ -149,28 +114,15 @@ pub(crate) fn hold<R: Print + Input>(rt: &R, order: Order) -> io::Result<()> {
     show(rt, order)?;
     let size = power(n);
     let mut answers = rt.reader();
-    let mut x = 3u32;
     let mut right = 0u64;
     let mut asked = 0u64;
-    while asked < 4294967295 {
-        match ask(
-            rt,
-            &mut answers,
-            order,
-            (wide(x) % size % 4294967296) as u32,
-        )? {
-            Asked::Right => {
-                right += 1;
-            }
-            Asked::Wrong => {}
-            Asked::Unanswered => {
-                break;
-            }
-        }
-        x = x.wrapping_add(5);
+    for turn in 0..u32::MAX {
+        let x = u64::from(turn.wrapping_mul(5).wrapping_add(3)) % size;
+        let Some(is_right) = ask(rt, &mut answers, order, x as u32)? else {
+            break;
+        };
+        right += u64::from(is_right);
         asked += 1;
     }
-    count(rt, right)?;
-    number(rt, b" right of ", asked)?;
-    words(rt, b"\n")
+    println!(rt; "{right} right of {asked}")
 }

@@ -1,127 +1,89 @@
 // What one elimination answers.
-ghost use Rattle.std.specs.Prelude.{◌≡◌, false, ◌++◌, ◌<◌, ◌≤◌, ◌-◌, ◌^◌, take, replicate};
+ghost use Rattle.std.specs.Prelude.{◌≡◌, false, ◌++◌, ◌<◌, ◌≤◌, ◌-◌, ◌^◌, length, replicate};
 ghost use Rattle.bank.specs.Limits;
 ghost use Rattle.algebra.specs.Matrix.{kernel, singular, inverse, columns, spills};
-ghost use Rattle.elimination.specs.Solved.{Complete, solved_for};
+ghost use Rattle.elimination.specs.Solved.{Swept, solved_for};
 
-use crate::echelon::{Echelon, eliminate, grow, no_entries, reduce, with_entry};
+use crate::echelon::Echelon;
+use crate::reduce::Reduced;
 use bank::ROWS;
-use matrix::rows::{apply_part, columns};
+use matrix::rows::{apply, columns};
 use matrix::vector::power;
 
-// The least nonzero vector that a matrix sends to zero, 0 where there is none; and the entries of all its columns where there is none.
-#[derive(Clone, Copy)]
-struct Swept {
-    kernel: u32,
-    entries: Echelon,
-}
-
-// The least nonzero vector that a matrix sends to zero and, where there is none, the source of an address; 0 in place of either.
-#[derive(Clone, Copy)]
-pub struct Solved {
-    pub kernel: u32,
-    pub source: u32,
-}
-
-// One elimination, up to the first column that is a sum of columns to its left. Its tag is the least vector sent to zero: the columns before it have no sum that is zero.
-fn sweep(rows: &[u32; ROWS], n: usize) -> Swept
-    requires { n ≤ Limits.ROWS }
-    ensures { (result.kernel ≡ kernel n (take n rows.now)) × Complete n rows.now result }
+// One elimination, up to the first column that is a sum of columns to its left: the entries of all columns; or the tag of that one, which is
+// the least nonzero vector sent to zero: the columns before it have no sum that is zero.
+fn sweep(rows: &[u32]) -> Result<Echelon, u32>
+    requires { length rows.now ≤ Limits.ROWS }
+    ensures { Swept (length rows.now) rows.now result }
 {
-    let cols = columns(rows, 0, n, n);
-    let mut e = no_entries();
-    let mut j: usize = 0;
-    while j < n {
-        let r = reduce(e, cols[j], power(j as u32));
-        let left = r.left;
-        let tag = r.tag;
+    let n = rows.len();
+    let cols = columns(rows, n);
+    let mut entries = Echelon::new();
+    for (j, column) in cols[..n].iter().enumerate() {
+        let Reduced { left, tag } = entries.reduce(*column, power(j as u32));
         if left == 0 {
-            return Swept {
-                kernel: tag,
-                entries: e,
-            };
+            return Err(tag);
         }
-        e = with_entry(e, left, tag);
-        j += 1;
+        entries.add(left, tag);
     }
-    Swept {
-        kernel: 0,
-        entries: e,
-    }
+    Ok(entries)
 }
 
-// The least nonzero vector that the matrix of the first n rows sends to zero, 0 where there is none.
-pub fn kernel(rows: &[u32; ROWS], n: usize) -> u32
-    requires { n ≤ Limits.ROWS }
-    ensures { result ≡ kernel n (take n rows.now) }
+// The least nonzero vector that the rows, as many as columns, send to zero, 0 where there is none, as the definition has it.
+pub fn kernel(rows: &[u32]) -> u32
+    requires { length rows.now ≤ Limits.ROWS }
+    ensures { result ≡ kernel (length rows.now) rows.now }
 {
-    let swept = sweep(rows, n);
-    swept.kernel
+    sweep(rows).err().unwrap_or(0)
 }
 
-// Whether the matrix of the first n rows sends some nonzero vector to zero.
-pub fn is_singular(rows: &[u32; ROWS], n: usize) -> bool
-    requires { n ≤ Limits.ROWS }
-    ensures { result ≡ singular n (take n rows.now) }
+// Whether the rows send some nonzero vector to zero.
+pub fn is_singular(rows: &[u32]) -> bool
+    requires { length rows.now ≤ Limits.ROWS }
+    ensures { result ≡ singular (length rows.now) rows.now }
 {
-    kernel(rows, n) != 0
+    kernel(rows) != 0
 }
 
-// The least nonzero vector that the first n rows send to zero, or the address that they and c send to y: one elimination answers both.
-pub fn solve(rows: &[u32; ROWS], n: usize, c: u32, y: u32) -> Solved
-    requires { (n ≤ Limits.ROWS) × (c < 2 ^ n) × (y < 2 ^ n) }
-    ensures { result ≡ solved_for n (take n rows.now) c y }
+// The address that the rows and c send to y, or the least nonzero vector that the rows send to zero: one elimination answers both.
+pub fn solve(rows: &[u32], c: u32, y: u32) -> Result<u32, u32>
+    requires { (length rows.now ≤ Limits.ROWS) × (c < 2 ^ length rows.now) × (y < 2 ^ length rows.now) }
+    ensures { result ≡ solved_for (length rows.now) rows.now c y }
 {
-    let swept = sweep(rows, n);
-    let kernel = swept.kernel;
-    if kernel != 0 {
-        return Solved { kernel, source: 0 };
-    }
-    let r = reduce(swept.entries, y ^ c, 0);
-    Solved {
-        kernel: 0,
-        source: r.tag,
+    match sweep(rows) {
+        Ok(entries) => Ok(entries.reduce(y ^ c, 0).tag),
+        Err(z) => Err(z),
     }
 }
 
-// The columns of the inverse of the first n rows; the places after them hold zero.
-pub fn inverse_columns(rows: &[u32; ROWS], n: usize) -> [u32; ROWS]
-    requires { (n ≤ Limits.ROWS) × (singular n (take n rows.now) ≡ false) }
-    ensures { result ≡ columns n (inverse n (take n rows.now)) ++ replicate (Limits.ROWS - n) 0 }
+// The columns of the inverse of the rows; the places after them hold zero.
+pub fn inverse_columns(rows: &[u32]) -> [u32; ROWS]
+    requires { (length rows.now ≤ Limits.ROWS) × (singular (length rows.now) rows.now ≡ false) }
+    ensures { result ≡ columns (length rows.now) (inverse (length rows.now) rows.now) ++ replicate (Limits.ROWS - length rows.now) 0 }
 {
-    let cols = columns(rows, 0, n, n);
-    let e = eliminate(&cols, n);
-    let mut out = [0u32; ROWS];
-    let mut j = 0;
-    while j < n {
-        let r = reduce(e, power(j as u32), 0);
-        out[j] = r.tag;
-        j += 1;
+    let n = rows.len();
+    let cols = columns(rows, n);
+    let entries = Echelon::of(&cols[..n]);
+    let mut out = [0; ROWS];
+    for j in 0..n {
+        out[j] = entries.reduce(power(j as u32), 0).tag;
     }
     out
 }
 
-// Whether some number below 2^m has zero parity against rows b..m-1 and odd parity against one of rows m..n-1.
-pub fn spills(rows: &[u32; ROWS], n: usize, b: usize, m: usize) -> bool
-    requires { (b ≤ m) × (m ≤ n) × (n ≤ Limits.ROWS) }
-    ensures { result ≡ spills b m (take n rows.now) }
+// Whether some number below 2^m has zero parity against rows b..m-1 and odd parity against one of the rows from m on.
+pub fn spills(rows: &[u32], b: usize, m: usize) -> bool
+    requires { (b ≤ m) × (m ≤ length rows.now) × (length rows.now ≤ Limits.ROWS) }
+    ensures { result ≡ spills b m rows.now }
 {
-    let cols = columns(rows, b, m, m);
-    let mut e = no_entries();
-    let mut j: usize = 0;
-    while j < m {
-        let column = cols[j];
-        let h = j as u32;
-        let r = reduce(e, column, power(h));
-        let left = r.left;
-        let tag = r.tag;
-        if left == 0 {
-            if 0 < apply_part(rows, m, n, tag) {
-                return true;
-            }
+    let cols = columns(&rows[b..m], m);
+    let mut entries = Echelon::new();
+    for (j, column) in cols[..m].iter().enumerate() {
+        let Reduced { left, tag } = entries.reduce(*column, power(j as u32));
+        if left == 0 && 0 < apply(&rows[m..], tag) {
+            return true;
         }
-        e = grow(e, h, column);
-        j += 1;
+        entries.grow(j as u32, *column);
     }
     false
 }

@@ -1,14 +1,17 @@
 -- What does the room hold once some lines are passed? Assumes nothing.
-use mathlib.Core.Path.{◌≡◌, refl, sym, ap, ◌∙◌}
-use mathlib.Core.List.{List, [], ◌∷◌, ◌++◌}
+use Rattle.std.specs.Prelude.{Some}
+use mathlib.Core.Path.{◌≡◌, refl, sym, ap, subst, ◌∙◌}
+use mathlib.Core.Logic.{⊎_elim}
+use mathlib.Core.List.{List, [], ◌∷◌, ◌++◌, append-nil}
 use Prim.Native.Nat.{ℕ, ◌+◌, ◌<◌, ◌≤◌}
 use native.Mathlib.Numerals.{add-one}
 use native.Mathlib.Omega.{arith}
-use lib.ListN.{length, set, drop, length-append, length-drop}
+use lib.ListN.{length, set, drop, drop_of_length-le, length-append}
 use lib.Seq.{append_snoc, drop-cons, set_at}
-use Rattle.entries.specs.Parsing.{EntryAt, HasRoom, FilledBy}
-use Rattle.entries.specs.declared.Entry.TheVariants.{Value}
-use Rattle.entries.proofs.Passed.{Passed, passed_none, passed_more, passed_fewer, passed_whole}
+use Rattle.algebra.proofs.Search.{le_or_lt}
+use Rattle.entries.specs.ListText.{IsText}
+use Rattle.entries.specs.Parsing.{EntryAt, HasLength}
+use Rattle.entries.proofs.Passed.{Passed, passed_none, passed_more, passed_all, passed_fewer, passed_whole}
 
 -- the i entries of the lines passed, and then what was there
 pub record Filled (text before room : List ℕ) (at i : ℕ) : Type 0 where
@@ -22,13 +25,15 @@ pub filled_none : (text before : List ℕ) → Filled text before before 0 0
 filled_none text before = record { done = []; passed = passed_none text; long = refl; fits = omega arith; is = refl }
 
 module _ (text before room : List ℕ) (at i : ℕ) (f : Filled text before room at i) where
-  pub filled_length : length room ≡ length before
-  filled_length = ap length f.is ∙ length-append f.done (drop i before) ∙ omega (arith, length-drop i before, f.long, f.fits)
+  -- an entry is left where the list isn't whole yet
+  pub filled_open : HasLength text (length before) → i < length before → at < length text
+  filled_open (list, t, e) h =
+      ⊎_elim
+      (λ (l : length text ≤ at). absurd (omega (arith, ap length (passed_whole text at f.done f.passed list t l), f.long, e)))
+      (λ (l : at < length text). l)
+      (le_or_lt (length text) at)
 
-  pub filled_fewer : HasRoom text before → at < length text → i < length before
-  filled_fewer (list, t, room) h = omega (arith, passed_fewer text at f.done f.passed list t h, f.long)
-
-  pub filled_more : (v k : ℕ) → i < length before → EntryAt text at (Value v k) → Filled text before (set room i v) k (i + 1)
+  pub filled_more : (v k : ℕ) → i < length before → EntryAt text at (Some (v, k)) → Filled text before (set room i v) k (i + 1)
   filled_more v k h entry =
       record {
         done = f.done ++ (v ∷ []);
@@ -40,5 +45,10 @@ module _ (text before room : List ℕ) (at i : ℕ) (f : Filled text before room
             (set_at f.done _ _ v i f.long ∙ sym (append_snoc f.done v _));
       }
 
-  pub filled_all : length text ≤ at → FilledBy text before room
-  filled_all h list t = f.is ∙ rw (passed_whole text at f.done f.passed list t h, f.long)
+  pub filled_all : HasLength text (length before) → length before ≤ i → IsText text room
+  filled_all (list, t, e) h =
+      ⊎_elim
+      (λ (l : length text ≤ at).
+      subst (IsText text) (sym (f.is ∙ rw (drop_of_length-le before h) (append-nil f.done))) (passed_all text at f.done f.passed l))
+      (λ (l : at < length text). absurd (omega (arith, passed_fewer text at f.done f.passed list t l, f.long, e)))
+      (le_or_lt (length text) at)

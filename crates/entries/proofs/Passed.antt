@@ -1,4 +1,5 @@
 -- Which entries do the lines passed say? Assumes nothing.
+use Rattle.std.specs.Prelude.{Some, None}
 use mathlib.Core.Path.{◌≡◌, refl, sym, ap, ◌∙◌}
 use mathlib.Core.List.{List, [], ◌∷◌, ◌++◌, append_assoc, append-nil}
 use Prim.Native.Nat.{ℕ, suc, ◌^◌, ◌<◌, ◌≤◌}
@@ -11,7 +12,6 @@ use Rattle.text.proofs.LineEnds.{same_decimals}
 use Rattle.words.specs.Says.{DIGITS}
 use Rattle.entries.specs.ListText.{list_text, IsText}
 use Rattle.entries.specs.Parsing.{EntryAt}
-use Rattle.entries.specs.declared.Entry.TheVariants.{Value, Bad}
 
 -- ---- texts of lists
 abbrev Short : List ℕ → Type 0
@@ -81,7 +81,7 @@ next done list after h [] e f g = absurd (omega (arith, ap length f))
 next done list after h (v ∷ vs) e f g = record { entry = v; others = vs; short = g 0 (omega arith); list_is = e; text_is = f }
 
 module _ (text : List ℕ) (at : ℕ) (done : List ℕ) (p : Passed text at done) where
-  pub passed_more : (v k : ℕ) → EntryAt text at (Value v k) → Passed text k (done ++ (v ∷ []))
+  pub passed_more : (v k : ℕ) → EntryAt text at (Some (v, k)) → Passed text k (done ++ (v ∷ []))
   passed_more v k entry =
       record {
         short = short_more done v p.short entry.0;
@@ -109,5 +109,5 @@ module _ (text : List ℕ) (at : ℕ) (done : List ℕ) (p : Passed text at done
     pub passed_fewer : at < length text → length done < length list
     passed_fewer h = let n = following h in omega (arith, ap length n.list_is ∙ length-append done (n.entry ∷ n.others))
 
-    pub passed_bad : at < length text → EntryAt text at Bad → ⊥
+    pub passed_bad : at < length text → EntryAt text at None → ⊥
     passed_bad h none = let n = following h in none n.entry (list_text n.others) n.short n.text_is

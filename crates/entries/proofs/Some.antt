@@ -1,4 +1,5 @@
 -- Which list does a text give, if any? Assumes nothing.
+use Rattle.std.specs.Prelude.{Option, Some, None}
 use mathlib.Core.Path.{◌≡◌, sym, ap, ◌∙◌}
 use mathlib.Core.Logic.{◌⊎◌, inl, inr, ⊎_elim}
 use mathlib.Core.List.{List, [], ◌∷◌, ◌++◌, List-discrete}
@@ -12,8 +13,6 @@ use Rattle.text.specs.Lines.{line, decimal}
 use Rattle.words.specs.Says.{DIGITS}
 use Rattle.entries.specs.ListText.{IsText, ReadsList, unread, no_room, taken}
 use Rattle.entries.specs.Parsing.{EntryAt}
-use Rattle.entries.specs.declared.Entry.{Entry}
-use Rattle.entries.specs.declared.Entry.TheVariants.{Value, Bad}
 use Rattle.entries.proofs.Found.{entry_past}
 use Rattle.entries.proofs.Passed.{Passed, passed_none, passed_more, passed_all, passed_bad}
 
@@ -47,11 +46,11 @@ module _ (s : List ℕ) (at : ℕ) where
 
   -- an entry, or that none stands there
   abbrev SomeEntry : Type 0
-  SomeEntry = (r : Entry) × EntryAt s at r
+  SomeEntry = (r : Option (ℕ × ℕ)) × EntryAt s at r
 
   by_number : Below Stands (10 ^ DIGITS) → SomeEntry
-  by_number (inl (v, h, e)) = (Value v (past v), (h, e))
-  by_number (inr f) = (Bad, λ v rest h e. f v h (stands v rest e))
+  by_number (inl (v, h, e)) = (Some (v, past v), (h, e))
+  by_number (inr f) = (None, λ v rest h e. f v h (stands v rest e))
 
   some_entry : SomeEntry
   some_entry = by_number (some_below Stands (λ v. List-discrete ℕ_discrete _ _) (10 ^ DIGITS))
@@ -68,8 +67,8 @@ module _ (text : List ℕ) where
 
   by_entry : (k : ℕ) → From k → (at : ℕ) (done : List ℕ) → Passed text at done → length text - at ≤ suc k → at < length text → SomeEntry text at
       → SomeList
-  by_entry k rest at done p few h (Bad, none) = inr (λ list t. passed_bad text at done p list t h none)
-  by_entry k rest at done p few h (Value v e, entry) =
+  by_entry k rest at done p few h (None, none) = inr (λ list t. passed_bad text at done p list t h none)
+  by_entry k rest at done p few h (Some (v, e), entry) =
       rest e (done ++ (v ∷ [])) (passed_more text at done p v e entry) (omega (arith, entry_past text at v e entry))
 
   list_from : (k : ℕ) → From k

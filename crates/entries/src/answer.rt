@@ -14,12 +14,11 @@ pub fn write_found(found: Recognised, room: &mut [u8; FOUND]) -> usize
     ensures { (result ≡ length (found_text found)) × (result ≤ length room.new) × (result ≡ length (take result room.new))
         × (room.new ≡ found_text found ++ drop (length (found_text found)) room.old) }
 {
-    if (ROWS as u32) < found.n {
+    let n = found.n as usize;
+    if ROWS < n {
         return 0;
     }
-    let n = found.n as usize;
-    let rows = found.rows;
-    let i = put_line(room, 0, b"", bank::wide(found.n));
-    let j = put_rows(room, i, &rows, n);
+    let i = put_line(room, 0, b"", u64::from(found.n));
+    let j = put_rows(room, i, &found.rows[..n]);
     put_row(room, j, found.complement, n)
 }

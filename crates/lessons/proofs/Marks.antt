@@ -1,9 +1,14 @@
 -- Which mark follows from the target and from what the answer says? Assumes nothing.
+use Rattle.std.specs.Prelude.{Option, Some, None}
+use Rattle.std.specs.Option.{option_eq}
 use mathlib.Core.Path.{◌≡◌, refl, sym, ap, ◌∙◌}
+use mathlib.Core.Bool.{true, false}
 use mathlib.Core.List.{List}
 use Prim.Native.Nat.{ℕ, zero, suc, ◌^◌, ◌<◌}
 use native.Mathlib.Nat.{lt_of_lt_of_le}
 use native.Mathlib.Omega.{arith}
+use borrow.Author.Tests.{eqb-true, eqb-false}
+use lib.Dec.{eqb}
 use lib.Pow.{pow_mono}
 use Rattle.bank.specs.Limits.{ROWS}
 use Rattle.order.specs.declared.Order.{Order}
@@ -14,7 +19,6 @@ use Rattle.addresses.proofs.Asked.{settled, sent_below, target_number, target_ad
 use Rattle.text.specs.Lines.{decimal}
 use Rattle.text.proofs.Decimals.{decimal_same}
 use Rattle.words.specs.Says.{Says, DIGITS}
-use Rattle.words.specs.declared.Word.TheVariants.{Number, Other}
 use Rattle.words.proofs.Numbers.{says_number, says_none}
 use Rattle.lessons.specs.Mark.{Marked, OneMark, refused, right, wrong}
 use Rattle.lessons.specs.declared.Mark.TheVariants.{Right, Wrong, Refused}
@@ -39,18 +43,27 @@ module _ (order : Order) (x : ℕ) (answer : List ℕ) (t : Target) (is : t ≡ 
         let small = lt_of_lt_of_le (sent_below order x none) (pow_mono {i = order.geometry.n} {j = ROWS} few) in
         omega (arith, small)
 
-    pub mark_no_number : Says answer Other → Marked order x answer Wrong
+    mark_no_number : Says answer None → Marked order x answer Wrong
     mark_no_number s = wrong none (says_none answer s (sent_to order x) sent_small)
 
-    module _ (v : ℕ) (said : Says answer (Number v)) where
-      pub mark_right : v ≡ t.address.0 → Marked order x answer Right
+    module _ (v : ℕ) (said : Says answer (Some v)) where
+      mark_right : v ≡ t.address.0 → Marked order x answer Right
       mark_right e = right none ((says_number answer v said).1 ∙ ap decimal (e ∙ target_address order x t is none))
 
-      pub mark_wrong : (v ≡ t.address.0 → ⊥) → Marked order x answer Wrong
+      mark_wrong : (v ≡ t.address.0 → ⊥) → Marked order x answer Wrong
       mark_wrong f =
           let s = says_number answer v said in
           wrong none (λ e. f (decimal_same v (sent_to order x) (omega (arith, s.0)) (omega (arith, sent_small)) (sym s.1 ∙ e)
           ∙ sym (target_address order x t is none)))
+
+    -- what the answer says, held against the target
+    pub mark_same : (r : Option ℕ) → Says answer r → option_eq eqb r (Some t.address.0) ≡ true → Marked order x answer Right
+    mark_same None s e = absurd (cc)
+    mark_same (Some v) s e = mark_right v s (eqb-true v t.address.0 e)
+
+    pub mark_other : (r : Option ℕ) → Says answer r → option_eq eqb r (Some t.address.0) ≡ false → Marked order x answer Wrong
+    mark_other None s e = mark_no_number s
+    mark_other (Some v) s e = mark_wrong v s (eqb-false v t.address.0 e)
 
 -- ---- one mark
 

@@ -25,6 +25,7 @@ use Rattle.text.proofs.RowLines.{length-bits, square_long}
 use Rattle.listing.specs.Listing.{passes_word, steps_word, result_word, pass_word, pass_lines, passes_lines, head_lines, tail_lines}
 use Rattle.listing.specs.Listing.{listing, written, room_after}
 use Rattle.listing.specs.Passes.{pass_at_lines}
+use Rattle.listing.specs.declared.sound.Sound.{Sound}
 use Rattle.writing.specs.Written.{put, Wrote}
 
 -- ---- the passes
@@ -76,6 +77,10 @@ module _ (plan : Plan) where
       let ps = (route_of plan).passes in
       let parts = passes_append plan.geometry.n 0 (take k ps) (drop k ps) in
       omega (arith, simp length-append at (ap length (rw (take-append-drop k ps) at parts)))
+
+  -- with pass p, no more than all of them
+  pub up_to_fits : (p : ℕ) → p < plan.count → length (up_to p) + length (pass_at_lines plan p) ≤ length (tail_lines plan)
+  up_to_fits p h = omega (arith, up_to_longer p h, up_to_short (p + 1))
 
   module _ (fits : plan.geometry.n ≤ ROWS) (room : length plan.rows ≡ PASSES * ROWS) where
     pub pass-length : (p : ℕ) → p < PASSES
@@ -167,3 +172,11 @@ module _ (plan : Plan) where
   listed_whole room h after past w =
       let z : 0 + length (listing plan) ≡ length (listing plan) = omega arith in
       (rw ((has_room room h).0, w.place) z, rw ((has_room room h).1, w.is, z))
+
+-- the listing of a plan that was found to run
+module _ (s : Sound) {plan : Plan} (is : s.plan ≡ plan) where
+  pub sound_parts : listing plan ≡ head_lines s.plan ++ tail_lines s.plan
+  sound_parts = sym (ap listing is) ∙ listing_parts s.plan s.runs
+
+  pub sound_long : length (listing plan) ≡ length (head_lines s.plan) + length (tail_lines s.plan)
+  sound_long = ap length sound_parts ∙ length-append (head_lines s.plan) (tail_lines s.plan)

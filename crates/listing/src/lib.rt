@@ -1,16 +1,16 @@
 // Listings of plans are written, on slices.
 #![tactic(auto)]
 
-ghost use Rattle.std.specs.Prelude.{◌≡◌, true, ◌++◌, ◌+◌, ◌<◌, ◌≤◌, length, take, drop};
-ghost use Rattle.bank.specs.Limits;
-ghost use Rattle.planning.specs.Running.{sound};
+mod sound; // sound.rt: a plan that can run
+
+ghost use Rattle.std.specs.Prelude.{◌≡◌, ◌++◌, ◌+◌, ◌<◌, ◌≤◌, length, take, drop};
 ghost use Rattle.listing.specs.Listing.{head_lines, tail_lines, listing, written, room_after};
 ghost use Rattle.listing.specs.Passes.{pass_at_lines};
 ghost use Rattle.writing.specs.Written.{Wrote};
 
+use crate::sound::Sound;
 use bank::{PASSES, ROWS};
 use planning::Plan;
-use running::is_sound;
 use store::pass_rows;
 use totals::{result_area, total_steps};
 use writing::write::{line_size, put_line, put_row, put_rows};
@@ -19,108 +19,99 @@ use writing::write::{line_size, put_line, put_row, put_rows};
 // and for each pass at most ROWS + 1 lines of at most ROWS + 1 bytes.
 pub const ROOM: usize = (3 + PASSES) * 28 + PASSES * (ROWS + 1) * (ROWS + 1);
 
-// How many bytes the three lines before the passes have.
-fn head_size(plan: Plan) -> usize
-    requires { sound plan ≡ true }
-    ensures { result ≡ length (head_lines plan) }
-{
-    let passes = line_size(b"passes ", bank::wide(plan.count));
-    let steps = line_size(b"steps ", total_steps(plan));
-    let area = line_size(b"result ", bank::wide(result_area(plan)));
-    passes + steps + area
-}
-
-// How many bytes pass p has: its number's line, and n + 1 lines of n characters.
-fn pass_size(plan: Plan, p: usize) -> usize
-    requires { (plan.geometry.n ≤ Limits.ROWS) × (p < Limits.PASSES) }
-    ensures { result ≡ length (pass_at_lines plan p) }
-{
-    let n = plan.geometry.n as usize;
-    line_size(b"pass ", p as u64) + (n + 1) * (n + 1)
-}
-
-// How many bytes the passes have.
-fn tail_size(plan: Plan) -> usize
-    requires { sound plan ≡ true }
-    ensures { result ≡ length (tail_lines plan) }
-{
-    let count = plan.count as usize;
-    let mut size = 0usize;
-    let mut k = 0usize;
-    while k < count {
-        size += pass_size(plan, k);
-        k += 1;
+impl Sound {
+    // How many bytes the three lines before the passes have.
+    fn head_size(self) -> usize
+        ensures { result ≡ length (head_lines self.plan) }
+    {
+        let passes = line_size(b"passes ", u64::from(self.plan.count));
+        let steps = line_size(b"steps ", total_steps(self.plan));
+        let area = line_size(b"result ", u64::from(result_area(self.plan)));
+        passes + steps + area
     }
-    size
+
+    // How many bytes pass p has: its number's line, and n + 1 lines of n characters.
+    fn pass_size(self, p: usize) -> usize
+        requires { p < self.plan.count }
+        ensures { result ≡ length (pass_at_lines self.plan p) }
+    {
+        let n = self.plan.geometry.n as usize;
+        line_size(b"pass ", p as u64) + (n + 1) * (n + 1)
+    }
+
+    // How many bytes the passes have.
+    fn tail_size(self) -> usize
+        ensures { result ≡ length (tail_lines self.plan) }
+    {
+        let mut size = 0;
+        for k in 0..self.plan.count as usize {
+            size += self.pass_size(k);
+        }
+        size
+    }
+
+    // The three lines before the passes.
+    fn put_head(self, room: &mut [u8]) -> usize
+        requires { length (head_lines self.plan) ≤ length room.old }
+        ensures { Wrote room.old 0 (head_lines self.plan) room.new result }
+    {
+        let passes = u64::from(self.plan.count);
+        let steps = total_steps(self.plan);
+        let area = u64::from(result_area(self.plan));
+        let p = put_line(room, 0, b"passes ", passes);
+        let q = put_line(room, p, b"steps ", steps);
+        put_line(room, q, b"result ", area)
+    }
+
+    // Pass p: its number, its n rows, its complement.
+    fn put_pass(self, room: &mut [u8], at: usize, p: usize) -> usize
+        requires { (p < self.plan.count) × (at + length (pass_at_lines self.plan p) ≤ length room.old) }
+        ensures { Wrote room.old at (pass_at_lines self.plan p) room.new result }
+    {
+        let n = self.plan.geometry.n as usize;
+        let rows = pass_rows(&self.plan.rows, p);
+        let i = put_line(room, at, b"pass ", p as u64);
+        let j = put_rows(room, i, &rows[..n]);
+        put_row(room, j, self.plan.complements[p], n)
+    }
+
+    // The passes, numbered from 0.
+    fn put_tail(self, room: &mut [u8], at: usize) -> usize
+        requires { at + length (tail_lines self.plan) ≤ length room.old }
+        ensures { Wrote room.old at (tail_lines self.plan) room.new result }
+    {
+        let mut i = at;
+        for p in 0..self.plan.count as usize {
+            i = self.put_pass(room, i, p);
+        }
+        i
+    }
 }
 
 // How many bytes the listing has: none where the plan can't run.
 pub fn listing_size(plan: Plan) -> usize
     ensures { result ≡ length (listing plan) }
 {
-    if !is_sound(plan) {
-        return 0;
+    match Sound::of(plan) {
+        Some(sound) => sound.head_size() + sound.tail_size(),
+        None => 0,
     }
-    head_size(plan) + tail_size(plan)
-}
-
-// The three lines before the passes.
-fn put_head(room: &mut [u8], plan: Plan) -> usize
-    requires { (sound plan ≡ true) × (length (head_lines plan) ≤ length room.old) }
-    ensures { Wrote room.old 0 (head_lines plan) room.new result }
-{
-    let passes = bank::wide(plan.count);
-    let steps = total_steps(plan);
-    let area = bank::wide(result_area(plan));
-    let p = put_line(room, 0, b"passes ", passes);
-    let q = put_line(room, p, b"steps ", steps);
-    put_line(room, q, b"result ", area)
-}
-
-// Pass p: its number, its n rows, its complement.
-fn put_pass(room: &mut [u8], at: usize, plan: Plan, p: usize) -> usize
-    requires { (plan.geometry.n ≤ Limits.ROWS) × (p < Limits.PASSES) × (at + length (pass_at_lines plan p) ≤ length room.old) }
-    ensures { Wrote room.old at (pass_at_lines plan p) room.new result }
-{
-    let n = plan.geometry.n as usize;
-    let all = plan.rows;
-    let rows = pass_rows(&all, p);
-    let complements = plan.complements;
-    let c = complements[p];
-    let i = put_line(room, at, b"pass ", p as u64);
-    let j = put_rows(room, i, &rows, n);
-    put_row(room, j, c, n)
-}
-
-// The passes, numbered from 0.
-fn put_tail(room: &mut [u8], at: usize, plan: Plan) -> usize
-    requires { (sound plan ≡ true) × (at + length (tail_lines plan) ≤ length room.old) }
-    ensures { Wrote room.old at (tail_lines plan) room.new result }
-{
-    let count = plan.count as usize;
-    let mut i = at;
-    let mut p = 0usize;
-    while p < count {
-        i = put_pass(room, i, plan, p);
-        p += 1;
-    }
-    i
 }
 
 // The whole listing into a room, and how many bytes it has; where it has no room nothing is written.
 pub fn write_listing(plan: Plan, room: &mut [u8]) -> usize
     ensures { (result ≡ written plan room.old) × (room.new ≡ room_after plan room.old) }
 {
-    if !is_sound(plan) {
+    let Some(sound) = Sound::of(plan) else {
         return 0;
-    }
-    let head = head_size(plan);
-    let size = head + tail_size(plan);
+    };
+    let head = sound.head_size();
+    let size = head + sound.tail_size();
     if room.len() < size {
         return 0;
     }
-    let p = put_head(room, plan);
-    put_tail(room, p, plan)
+    let p = sound.put_head(room);
+    sound.put_tail(room, p)
 }
 
 // The whole listing of any plan, and how many bytes it has.

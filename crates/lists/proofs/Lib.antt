@@ -4,6 +4,5 @@ pub mod Numbered
 pub mod Only
 pub mod Given
 pub mod Parts
-pub mod Words
 pub mod Judged
 pub mod Main

@@ -3,3 +3,4 @@ pub mod Targets
 pub mod Given
 pub mod Recognised
 pub mod Apart
+pub mod Found

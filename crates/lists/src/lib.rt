@@ -3,16 +3,19 @@
 
 mod apart; // apart.rt: the entries against the only matrix and complement that can give them
 
-ghost use Rattle.std.specs.Prelude.{◌≡◌, ◌++◌, ◌-◌, ◌≤◌, length, replicate};
+ghost use Rattle.std.specs.Prelude.{◌≡◌, suc, ◌≤◌, MatchOption};
 ghost use Rattle.bank.specs.Limits;
 ghost use Rattle.lists.specs.Targets.{bits_for};
+ghost use Rattle.lists.specs.Found.{answered};
 ghost use Rattle.lists.specs.Recognised.{recognised};
 
 use crate::apart::{apart_from, columns_of};
-use bank::{Address, ROWS};
+use bank::refusal::Refusal;
+use bank::{Address, ROWS, power};
+use elimination::questions::kernel;
 use matrix::rows::columns;
 
-// The number; n, the rows of A and c, zero everywhere where refused. With 3, the least nonzero address z that A sends to zero; 0 with every other number.
+// The number; n, the rows of A and c, zero everywhere where refused, as `recognised` has it. With 3, the least nonzero address z that A sends to zero; 0 with every other number.
 #[derive(Clone, Copy)]
 pub struct Recognised {
     pub number: u8,
@@ -22,63 +25,75 @@ pub struct Recognised {
     pub z: Address,
 }
 
-// The n in 2..ROWS for which so many entries are 2^n, or ROWS + 1.
-fn bits_for(size: usize) -> u32
-    ensures { result ≡ bits_for size }
+// The matrix and the complement that give a list of 2^n entries: the rows, with zeros after them, and c.
+#[derive(Clone, Copy)]
+struct Found {
+    n: u32,
+    matrix: [u32; ROWS],
+    complement: u32,
+}
+
+// The n in 2..ROWS for which so many entries are 2^n.
+fn bits_for(size: usize) -> Option<u32>
+    ensures { MatchOption result (bits_for size ≡ suc Limits.ROWS) (λ n. (n ≤ Limits.ROWS) × (n ≡ bits_for size)) }
 {
-    let mut n = 2u32;
-    while n <= ROWS as u32 {
-        if size as u64 == bank::power(n) {
-            return n;
+    for n in 2..=ROWS as u32 {
+        if size as u64 == power(n) {
+            return Some(n);
         }
-        n += 1;
     }
-    n
+    None
 }
 
-// A refusal.
-fn refused(number: u8, z: u32) -> Recognised
-    ensures { result ≡ record { number = number; n = 0; rows = replicate Limits.ROWS 0; complement = 0; z = record { 0 = z } } }
-{
-    Recognised {
-        number,
-        n: 0,
-        rows: [0; ROWS],
-        complement: 0,
-        z: Address(bank::wide(z)),
-    }
-}
-
-// The order that a list is, entry x being the target of address x. Only one matrix and complement can give it: c is entry 0, column j is entry 2^j without c.
+// Only one matrix and complement can give the list: c is entry 0, column j is entry 2^j without c.
 // They are bits below N, so that a difference from the entries is N or more exactly where an entry is.
+fn find(list: &[u64]) -> Result<Found, Refusal>
+    ensures { answered result ≡ recognised list.now }
+{
+    let n = bits_for(list.len()).ok_or(Refusal::Entries)?;
+    let k = n as usize;
+    let size = power(n);
+    let complement = (list[0] % size) as u32;
+    let cols = columns_of(list, k);
+    let off = apart_from(list, &cols[..k], complement);
+    if size <= off {
+        return Err(Refusal::Entries);
+    }
+    if off != 0 {
+        return Err(Refusal::NoOrder);
+    }
+    let matrix = columns(&cols[..k], k);
+    match kernel(&matrix[..k]) {
+        0 => Ok(Found {
+            n,
+            matrix,
+            complement,
+        }),
+        z => Err(Refusal::Singular(Address(u64::from(z)))),
+    }
+}
+
+// The order that a list is, entry x being the target of address x.
 pub fn recognise(list: &[u64]) -> Recognised
     ensures { result ≡ recognised list.now }
 {
-    let n = bits_for(list.len());
-    if (ROWS as u32) < n {
-        return refused(11, 0);
-    }
-    let k = n as usize;
-    let size = bank::power(n);
-    let c = (list[0] % size) as u32;
-    let cols = columns_of(list, k);
-    let off = apart_from(list, k, cols, c);
-    if size <= off {
-        return refused(11, 0);
-    }
-    if off != 0 {
-        return refused(12, 0);
-    }
-    let rows = columns(&cols, 0, k, k);
-    let z = elimination::questions::kernel(&rows, k);
-    if z != 0 {
-        return refused(3, z);
-    }
-    Recognised {
-        number: 0,
-        n,
-        rows,
-        complement: c,
-        z: Address(0),
+    match find(list) {
+        Ok(found) => {
+            let rows = found.matrix;
+            Recognised {
+                number: 0,
+                n: found.n,
+                rows,
+                complement: found.complement,
+                z: Address(0),
+            }
+        }
+        Err(refusal) => Recognised {
+            number: refusal.number(),
+            n: 0,
+            rows: [0; ROWS],
+            complement: 0,
+            z: refusal.z(),
+        },
     }
 }

@@ -6,16 +6,14 @@ ghost use Rattle.algebra.specs.Carry.{flips};
 pub fn flip(columns: &[u32], k: usize) -> u32
     ensures { result ≡ flips columns.now k }
 {
-    let mut s: u32 = 0;
-    let mut x = k;
-    let mut j = 0;
-    while j < columns.len() {
-        s = s ^ columns[j];
-        if x % 2 == 0 {
-            return s;
+    let mut sum = 0;
+    let mut left = k;
+    for column in columns {
+        sum ^= column;
+        if left % 2 == 0 {
+            return sum;
         }
-        x = x / 2;
-        j += 1;
+        left /= 2;
     }
-    s
+    sum
 }

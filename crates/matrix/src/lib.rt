@@ -1,5 +1,5 @@
-// Matrices over GF(2) as arrays of rows, a word each.
-// A row is a number whose bit j is its entry in column j. The functions take rows with room for ROWS of them and say how many count.
+// Matrices over GF(2) as slices of rows, a word each.
+// A row is a number whose bit j is its entry in column j. The functions take exactly the rows meant, and give arrays with room for ROWS of them.
 #![tactic(auto)]
 
 pub mod vector; // vector.rt: bits, parities, sums

@@ -1,68 +1,46 @@
-// A matrix as an array of rows, applied and taken apart.
-ghost use Rattle.std.specs.Prelude.{◌≡◌, ◌++◌, ◌≤◌, ◌-◌, take, drop, replicate};
+// A matrix as a slice of rows, applied and taken apart. That a slice has at most ROWS rows stands in each clause: a type for it would have to be made
+// anew of every part that is lent.
+ghost use Rattle.std.specs.Prelude.{◌≡◌, ◌++◌, ◌≤◌, ◌-◌, length, replicate};
 ghost use Rattle.bank.specs.Limits;
 ghost use Rattle.algebra.specs.Matrix.{after, applied, columns, identity, is_identity};
 
 use crate::vector::{parity, power, sum};
 use bank::ROWS;
 
-// The rows from..to applied to x.
-pub fn apply_part(rows: &[u32; ROWS], from: usize, to: usize, x: u32) -> u32
-    requires { (from ≤ to) × (to ≤ Limits.ROWS) }
-    ensures { result ≡ applied (take (to - from) (drop from rows.now)) x }
+// The rows applied to x.
+pub fn apply(rows: &[u32], x: u32) -> u32
+    requires { length rows.now ≤ Limits.ROWS }
+    ensures { result ≡ applied rows.now x }
 {
-    let mut r: u32 = 0;
-    let mut i = to - from;
-    while 0 < i {
-        i -= 1;
-        r = r * 2 + parity(rows[from + i] & x);
+    let mut y = 0;
+    for row in rows.iter().rev() {
+        y = y * 2 + parity(row & x);
     }
-    r
+    y
 }
 
-// The first n rows applied to x.
-pub fn apply(rows: &[u32; ROWS], n: usize, x: u32) -> u32
-    requires { n ≤ Limits.ROWS }
-    ensures { result ≡ applied (take n rows.now) x }
+// The first n columns of the rows; the places after them hold zero.
+pub fn columns(rows: &[u32], n: usize) -> [u32; ROWS]
+    requires { (length rows.now ≤ Limits.ROWS) × (n ≤ Limits.ROWS) }
+    ensures { result ≡ columns n rows.now ++ replicate (Limits.ROWS - n) 0 }
 {
-    apply_part(rows, 0, n, x)
-}
-
-// The first n columns of the rows from..to; the places after them hold zero.
-pub fn columns(rows: &[u32; ROWS], from: usize, to: usize, n: usize) -> [u32; ROWS]
-    requires { (from ≤ to) × (to ≤ Limits.ROWS) × (n ≤ Limits.ROWS) }
-    ensures { result ≡ columns n (take (to - from) (drop from rows.now)) ++ replicate (Limits.ROWS - n) 0 }
-{
-    let mut cols = [0u32; ROWS];
-    let mut j = 0;
-    while j < n {
-        cols[j] = apply_part(rows, from, to, power(j as u32));
-        j += 1;
+    let mut cols = [0; ROWS];
+    for j in 0..n {
+        cols[j] = apply(rows, power(j as u32));
     }
     cols
 }
 
-// The sums of the first n vectors that the first n picks ask for; the places after them hold zero.
-fn sums(picks: [u32; ROWS], vectors: &[u32; ROWS], n: usize) -> [u32; ROWS]
-    requires { n ≤ Limits.ROWS }
-    ensures { result ≡ after (take n vectors.now) (take n picks) ++ replicate (Limits.ROWS - n) 0 }
+// The product of two matrices: a row for each of a, the sum of the rows of b that it picks; the places after them hold zero.
+pub fn product(a: &[u32], b: &[u32]) -> [u32; ROWS]
+    requires { length a.now ≤ Limits.ROWS }
+    ensures { result ≡ after b.now a.now ++ replicate (Limits.ROWS - length a.now) 0 }
 {
-    let mut rows = [0u32; ROWS];
-    let mut i = 0;
-    while i < n {
-        rows[i] = sum(vectors, n, picks[i]);
-        i += 1;
+    let mut rows = [0; ROWS];
+    for (i, picks) in a.iter().enumerate() {
+        rows[i] = sum(b, *picks);
     }
     rows
-}
-
-// The product of two matrices of n rows; the places after the rows hold zero.
-pub fn product(a: &[u32; ROWS], b: &[u32; ROWS], n: usize) -> [u32; ROWS]
-    requires { n ≤ Limits.ROWS }
-    ensures { result ≡ after (take n b.now) (take n a.now) ++ replicate (Limits.ROWS - n) 0 }
-{
-    let picks = *a;
-    sums(picks, b, n)
 }
 
 // The identity of n rows; the places after them hold zero.
@@ -70,26 +48,22 @@ pub fn identity(n: usize) -> [u32; ROWS]
     requires { n ≤ Limits.ROWS }
     ensures { result ≡ identity n ++ replicate (Limits.ROWS - n) 0 }
 {
-    let mut rows = [0u32; ROWS];
-    let mut i = 0;
-    while i < n {
+    let mut rows = [0; ROWS];
+    for i in 0..n {
         rows[i] = power(i as u32);
-        i += 1;
     }
     rows
 }
 
-// Whether the first n rows are those of the identity.
-pub fn is_identity(rows: &[u32; ROWS], n: usize) -> bool
-    requires { n ≤ Limits.ROWS }
-    ensures { result ≡ is_identity n (take n rows.now) }
+// Whether the rows are those of the identity.
+pub fn is_identity(rows: &[u32]) -> bool
+    requires { length rows.now ≤ Limits.ROWS }
+    ensures { result ≡ is_identity (length rows.now) rows.now }
 {
-    let mut i = 0;
-    while i < n {
-        if rows[i] != power(i as u32) {
+    for (i, row) in rows.iter().enumerate() {
+        if *row != power(i as u32) {
             return false;
         }
-        i += 1;
     }
     true
 }

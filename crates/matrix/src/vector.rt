@@ -1,16 +1,15 @@
 // Numbers as vectors over GF(2).
-ghost use Rattle.std.specs.Prelude.{◌≡◌, ◌<◌, ◌≤◌, ◌^◌, take};
-ghost use Rattle.bank.specs.Limits;
+ghost use Rattle.std.specs.Prelude.{◌≡◌, ◌<◌, ◌^◌};
 ghost use Rattle.algebra.specs.Vector;
 ghost use Rattle.algebra.specs.Vector.{parity, bit, unless_zero, comb};
 
-use bank::{ROWS, WORD};
+use bank::WORD;
 
 // The parity of x.
 pub(crate) fn parity(x: u32) -> u32
     ensures { result ≡ parity x }
 {
-    u32::count_ones(x) % 2
+    x.count_ones() % 2
 }
 
 // Bit q of v.
@@ -27,7 +26,7 @@ pub fn unless_zero(d: u32, v: u32) -> u32
     if d == 0 { 0 } else { v }
 }
 
-// 2 to the j.
+// 2 to the j, in a word. `bank::power` has more bits: each is one shift, and a function for both would need a trait for that alone.
 pub fn power(j: u32) -> u32
     requires { j < Vector.WORD }
     ensures { result ≡ 2 ^ j }
@@ -35,18 +34,15 @@ pub fn power(j: u32) -> u32
     1u32 << j
 }
 
-// The sum of those of the first n vectors that s picks.
-pub fn sum(vectors: &[u32; ROWS], n: usize, s: u32) -> u32
-    requires { n ≤ Limits.ROWS }
-    ensures { result ≡ comb (take n vectors.now) s }
+// The sum of those of the vectors that s picks.
+pub fn sum(vectors: &[u32], s: u32) -> u32
+    ensures { result ≡ comb vectors.now s }
 {
-    let mut total: u32 = 0;
+    let mut total = 0;
     let mut left = s;
-    let mut j = 0;
-    while j < n {
-        total = total ^ unless_zero(left % 2, vectors[j]);
-        left = left / 2;
-        j += 1;
+    for vector in vectors {
+        total ^= unless_zero(left % 2, *vector);
+        left /= 2;
     }
     total
 }

@@ -26,7 +26,15 @@ use Rattle.bank.specs.Geometry.{in_limits}
 use Rattle.blocks.proofs.Plans.{total_fits}
 use Rattle.blocks.specs.Moving.{StepsReady}
 use Rattle.mover.specs.Promise.{RunPromise, StepPromise, case_of}
-use Rattle.mover.specs.declared.step.Stepped.TheVariants.{Again, Done, Refused}
+use Rattle.mover.specs.Turn.{number_told}
+use Rattle.mover.specs.declared.step.Stepped.TheVariants as Stepped
+use Rattle.mover.specs.declared.step.Stepped.TheVariants.{Done, Refused}
+use Rattle.mover.specs.declared.step.Turn.TheVariants.{Next, Again}
+use Rattle.mover.specs.declared.step.Turn.{Turn}
+use Rattle.bank.proofs.Refusals.{refuses, never_nine}
+use Rattle.bank.specs.Refusal.{number_of}
+use Rattle.bank.specs.declared.refusal.Refusal.{Refusal}
+use Rattle.std.proofs.Common.{Ok}
 use Rattle.moving.proofs.Fits.{Fits→buffers_fit}
 
 -- ---- the checks of both calls, and those after them
@@ -35,14 +43,9 @@ use Rattle.moving.proofs.Fits.{Fits→buffers_fit}
 abbrev checks : Bool → Bool → ℕ → ℕ
 checks c f later = refuse (not c) 7 (refuse (not f) 4 later)
 
-pub check_stops : (c f : Bool) (later : ℕ) → (checks c f 0 ≡ 0 → ⊥) → checks c f 0 ≡ checks c f later
-check_stops false f later ne = refl
-check_stops true false later ne = refl
-check_stops true true later ne = absurd (ne refl)
-
-pub check_goes : (c f : Bool) (later : ℕ) → checks c f 0 ≡ 0 → (c ≡ true) × (later ≡ checks c f later)
-check_goes false f later e = let z : ◌≡◌ {A = ℕ} 7 0 = e in absurd (omega arith)
-check_goes true false later e = let z : ◌≡◌ {A = ℕ} 4 0 = e in absurd (omega arith)
+pub check_goes : (c f : Bool) (later : ℕ) → 0 ≡ checks c f 0 → (c ≡ true) × (later ≡ checks c f later)
+check_goes false f later e = let z : ◌≡◌ {A = ℕ} 0 7 = e in absurd (omega arith)
+check_goes true false later e = let z : ◌≡◌ {A = ℕ} 0 4 = e in absurd (omega arith)
 check_goes true true later e = (refl, refl)
 
 -- the total of a sound plan is the one that code works out, and fits
@@ -100,26 +103,31 @@ module _ (plan : Plan) (before : Moment) (asked : ℕ) where
         bytes = m ∙ sym (ap (λ (w : Moment). w.buffers) d);
       }
 
-  pub again_promise : {s : State} {after : Buffers} → number ≡ 9 → s ≡ before.state → after ≡ moved → StepPromise plan before asked (Again s) after
+  pub again_promise : {s : State} {after : Buffers} → number ≡ 9 → s ≡ before.state → after ≡ moved → StepPromise plan before asked (Stepped.Again s) after
   unfolding case_of
   again_promise e a m =
       let d = step_nine plan before asked e in
       record {
-        answered = ap Again a ∙ sym (ap₂ (λ (k : ℕ) (w : Moment). case_of k w.state) e d);
+        answered = ap Stepped.Again a ∙ sym (ap₂ (λ (k : ℕ) (w : Moment). case_of k w.state) e d);
         bytes = m ∙ sym (ap (λ (w : Moment). w.buffers) d);
       }
 
-  pub refused_promise : {k : ℕ} {s : State} → k ≡ number → (number ≡ 0 → ⊥) → (number ≡ 9 → ⊥) → s ≡ before.state
+  -- the step that is asked is the next one or the one before it
+  pub moves_ready : length plan.rows ≡ PASSES * ROWS → (turn : Turn) → number_told (Ok turn) ≡ number → StepsReady plan asked 1 before.buffers
+  moves_ready long Next e = done_ready long (sym e)
+  moves_ready long Again e = again_ready long (sym e)
+
+  pub refused_promise : {k : ℕ} {s : State} (r : Refusal) → number_of r ≡ number → k ≡ number_of r → s ≡ before.state
       → StepPromise plan before asked (Refused k s) before.buffers
   unfolding case_of
-  refused_promise e n0 n9 a =
-      let z = ne_eqb number 0 n0 in
-      let n = ne_eqb number 9 n9 in
+  refused_promise r f e a =
+      let z = ne_eqb number 0 (λ h. refuses r (f ∙ h)) in
+      let n = ne_eqb number 9 (λ h. never_nine r (f ∙ h)) in
       let d = refused_keeps plan before asked (ap₂ (λ (x y : Bool). not (x || y)) z n) in
       record {
         answered =
             let s = before.state in
-            ap₂ Refused e a ∙ sym (ap₂ (λ (x y : Bool). cond x (Done s) (cond y (Again s) (Refused number s))) z n)
+            ap₂ Refused (e ∙ f) a ∙ sym (ap₂ (λ (x y : Bool). cond x (Done s) (cond y (Stepped.Again s) (Refused number s))) z n)
             ∙ sym (ap (λ (w : Moment). case_of number w.state) d);
         bytes = sym (ap (λ (w : Moment). w.buffers) d);
       }
@@ -138,32 +146,32 @@ module _ (plan : Plan) (before : Moment) where
   unfolding run_number ready_number buffers_fit
   run_number_lem = refl
 
-  pub run_steps_ready : length plan.rows ≡ PASSES * ROWS → run_is ≡ 0 → (k : ℕ) → next + k ≤ total (route_of plan)
+  pub run_steps_ready : length plan.rows ≡ PASSES * ROWS → 0 ≡ run_is → (k : ℕ) → next + k ≤ total (route_of plan)
       → StepsReady plan next k before.buffers
-  run_steps_ready long e k m = steps_ready long (run_ready plan before e) next k m
+  run_steps_ready long e k m = steps_ready long (run_ready plan before (sym e)) next k m
 
-  pub run_total : run_is ≡ 0 → (total_steps plan ≡ total (route_of plan)) × (next ≤ total (route_of plan))
-  run_total e = let r = run_ready plan before e in (total_is plan r.sound_plan, r.in_total)
+  pub run_total : 0 ≡ run_is → (total_steps plan ≡ total (route_of plan)) × (next ≤ total (route_of plan))
+  run_total e = let r = run_ready plan before (sym e) in (total_is plan r.sound_plan, r.in_total)
 
-  pub run_refused : (q : ℕ) {k : ℕ} {s : State} → k ≡ run_is → (run_is ≡ 0 → ⊥) → s ≡ before.state
+  pub run_refused : (q : ℕ) {k : ℕ} {s : State} (r : Refusal) → number_of r ≡ run_is → k ≡ number_of r → s ≡ before.state
       → RunPromise plan before q (record { number = k; count = 0; state = s }) before.buffers
-  run_refused q e ne a =
-      let z = ne_eqb run_is 0 ne in
+  run_refused q r f e a =
+      let z = ne_eqb run_is 0 (λ h. refuses r (f ∙ h)) in
       let d = refused_run plan before q z in
       record {
-        number = e;
+        number = e ∙ f;
         count = sym (refused_count plan before q z);
         state' = a ∙ sym (ap (λ (w : Moment). w.state) d);
         bytes = sym (ap (λ (w : Moment). w.buffers) d);
       }
 
-  pub run_done : (q : ℕ) {k n : ℕ} {s : State} {after : Buffers} → k ≡ run_is → run_is ≡ 0 → n ≡ min q (total (route_of plan) - next)
+  pub run_done : (q : ℕ) {n : ℕ} {s : State} {after : Buffers} → 0 ≡ run_is → n ≡ min q (total (route_of plan) - next)
       → s ≡ advanced_by before.state n
-      → after ≡ moves_from (move (route_of plan)) next n before.buffers → RunPromise plan before q (record { number = k; count = n; state = s }) after
+      → after ≡ moves_from (move (route_of plan)) next n before.buffers → RunPromise plan before q (record { number = 0; count = n; state = s }) after
   unfolding ran
-  run_done q {k} {n} e z m a b =
-      let r = run_ready plan before z in
-      let c : n ≡ run_count plan before q = m ∙ sym (run_count_lem plan before q z) in
+  run_done q {n} e m a b =
+      let r = run_ready plan before (sym e) in
+      let c : n ≡ run_count plan before q = m ∙ sym (run_count_lem plan before q (sym e)) in
       let small : next + n < 2 ^ 64 = omega (arith, r.in_total, total_small plan r.sound_plan) in
       record {
         number = e;

@@ -1,3 +1,5 @@
 -- The laws that belong to no one function.
 pub mod Asked
 pub mod Main
+pub mod Passes
+pub mod Same

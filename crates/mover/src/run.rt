@@ -1,77 +1,55 @@
 // A run with an allowance of steps.
-ghost use Rattle.std.specs.Prelude.{◌≡◌, ◌+◌, ◌<◌, ◌^◌, min};
+ghost use Rattle.std.specs.Prelude.{◌≡◌, ◌+◌, ◌<◌, ◌^◌};
 ghost use Rattle.planning.specs.Stored.{route_of};
 ghost use Rattle.moving.specs.Call.{lent};
 ghost use Rattle.blocks.specs.Moving.{MoveReady, StepsReady, move_by};
 ghost use Rattle.mover.specs.Promise.{RunPromise};
+ghost use Rattle.mover.specs.Lent.{SameLent, bytes_in};
 ghost use Rattle.moving.specs.Step.{buffers_of, move, moves_from};
 
-use crate::step::ready_number;
+use crate::lent::Lent;
+use crate::step::ready;
 use bank::Step;
 use blocks::moves::move_step;
 use planning::Plan;
 use planning::state::State;
-use tables::pace::pace_of;
-use tables::tables::{Tables, tables_of};
+use tables::pace::Pace;
+use tables::tables::Tables;
 use totals::total_steps;
 
-// The number, the steps that were done, and the state that follows.
-#[derive(Clone, Copy)]
+// The number, the steps that were done, and the state that follows, as `RunPromise` asks for each.
+#[derive(Clone, Copy, Debug, PartialEq, Eq)]
 pub struct Ran {
     pub number: u8,
     pub count: u64,
     pub state: State,
 }
 
-// The smaller of the two.
-fn least(a: u64, b: u64) -> u64
-    ensures { result ≡ min a b }
-{
-    if a < b { a } else { b }
-}
-
 // So many steps of the tables' pass, from the first on.
-fn run_pass(
-    t: Tables,
-    first: Step,
-    count: u64,
-    area0: &mut [u8],
-    area1: &mut [u8],
-    memory: &mut [u8],
-)
-    requires { MoveReady t (buffers_of area0.old area1.old memory.old) × (first.0 + count < 2 ^ 64) }
-    ensures { buffers_of area0.new area1.new memory.new
-        ≡ moves_from (move_by t) first.0 count (buffers_of area0.old area1.old memory.old) }
+fn run_pass(t: Tables, first: Step, count: u64, lent: &mut Lent)
+    requires { MoveReady t (bytes_in lent.old) × (first.0 + count < 2 ^ 64) }
+    ensures same { SameLent lent.old lent.new }
+    ensures moved { bytes_in lent.new ≡ moves_from (move_by t) first.0 count (bytes_in lent.old) }
 {
-    let mut i: u64 = 0;
-    while i < count {
-        let s = Step(first.0 + i);
-        move_step(t, s, area0, area1, memory);
-        i += 1;
+    for i in 0..count {
+        move_step(t, Step(first.0 + i), lent.area0, lent.area1, lent.memory);
     }
 }
 
 // So many steps of a plan, from the first on: pass after pass, with the tables worked out once for each.
-fn run_steps(
-    plan: Plan,
-    first: Step,
-    count: u64,
-    area0: &mut [u8],
-    area1: &mut [u8],
-    memory: &mut [u8],
-)
-    requires { StepsReady plan first.0 count (buffers_of area0.old area1.old memory.old) }
-    ensures { buffers_of area0.new area1.new memory.new
-        ≡ moves_from (move (route_of plan)) first.0 count (buffers_of area0.old area1.old memory.old) }
+fn run_steps(plan: Plan, first: Step, count: u64, lent: &mut Lent)
+    requires { StepsReady plan first.0 count (bytes_in lent.old) }
+    ensures same { SameLent lent.old lent.new }
+    ensures moved { bytes_in lent.new ≡ moves_from (move (route_of plan)) first.0 count (bytes_in lent.old) }
 {
-    let each = pace_of(plan).pass;
+    let each = Pace::of(plan).pass;
     let mut done: u64 = 0;
+    // It goes on by what a pass has left, so no range gives it.
     while done < count {
         let s = first.0 + done;
-        let k = least(count - done, each - s % each);
-        let t = tables_of(plan, s / each);
-        let at = Step(s);
-        run_pass(t, at, k, area0, area1, memory);
+        let k = (count - done).min(each - s % each);
+        let t = Tables::of(plan, s / each);
+        run_pass(t, Step(s), k, lent);
         done += k;
     }
 }
@@ -88,24 +66,25 @@ pub fn run(
     ensures { RunPromise plan (lent state area0.old area1.old memory.old) allowance result
         (buffers_of area0.new area1.new memory.new) }
 {
-    let number = ready_number(plan, state, area0.len(), area1.len(), memory.len());
-    if number != 0 {
-        let s = state.kept();
+    let mut lent = Lent {
+        area0,
+        area1,
+        memory,
+    };
+    if let Err(refusal) = ready(plan, state, &lent) {
         return Ran {
-            number: number,
+            number: refusal.number(),
             count: 0,
-            state: s,
+            state: state.kept(),
         };
     }
-    let next = state.next;
     let all = total_steps(plan);
-    let left = all - next.0;
-    let count = least(allowance, left);
-    run_steps(plan, next, count, area0, area1, memory);
-    let s = state.advanced(count);
+    let left = all - state.next.0;
+    let count = allowance.min(left);
+    run_steps(plan, state.next, count, &mut lent);
     Ran {
-        number: number,
-        count: count,
-        state: s,
+        number: 0,
+        count,
+        state: state.advanced(count),
     }
 }

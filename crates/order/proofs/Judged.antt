@@ -1,9 +1,9 @@
 -- Which judgement follows from which checks? Assumes nothing.
 use mathlib.Core.Path.{◌≡◌, refl, sym, ap, ◌∙◌}
-use mathlib.Core.Bool.{Bool, true, false, cond, not, ◌&&◌}
+use mathlib.Core.Bool.{Bool, true, false, cond, not, ◌&&◌, ◌||◌}
 use Prim.Native.Nat.{ℕ, zero, suc, ◌≤◌, ◌<◌}
 use native.Mathlib.Omega.{arith}
-use borrow.Author.Tests.{eq-eqb, le-leb, leb-true, lt-leb, ne_eqb, not-false}
+use borrow.Author.Tests.{eq-eqb, leb-true, lt-leb, ne_eqb, not-false}
 use lib.Dec.{eqb, leb}
 use lib.ListN.{get_or}
 use Rattle.bank.specs.Limits.{ROWS}
@@ -17,25 +17,13 @@ use Rattle.algebra.proofs.Singular.{kernel_none}
 use Rattle.order.specs.Order.{Words, matrix_of, stray_row, stray_complement, spare_row, bad_form, form_number, judgement, z_with}
 use Rattle.order.specs.declared.Order.{Order}
 
--- ---- the form, as code tests it: size is N, and t what the search for stray rows says
-module _ (order : Order) (size : ℕ) (is : size ≡ records order.geometry) (t : Bool)
-    (rows : t ≡ any_below (λ i. leb size (get_or order.rows i 0)) order.geometry.n) where
-  stray_is : stray_row order ≡ t
-  unfolding stray_row
-  stray_is = ap (λ (k : ℕ). any_below (λ i. leb k (get_or order.rows i 0)) order.geometry.n) (sym is) ∙ sym rows
-
-  pub by_row : t ≡ true → bad_form order ≡ true
-  unfolding bad_form
-  by_row e = rw (stray_is ∙ e)
-
-  pub by_complement : t ≡ false → size ≤ order.complement → bad_form order ≡ true
-  unfolding bad_form stray_complement
-  by_complement e h = rw (stray_is ∙ e, ← is, le-leb size order.complement h)
-
-  pub by_place : t ≡ false → order.complement < size → (s : Bool)
-      → s ≡ any_below (λ i. leb order.geometry.n i && not (eqb (get_or order.rows i 0) 0)) ROWS → bad_form order ≡ s
-  unfolding bad_form stray_complement spare_row
-  by_place e h s q = rw (stray_is ∙ e, ← is, lt-leb size order.complement h) (sym q)
+-- ---- the form, as code tests it: size is N, t what the search for stray rows says, and s what that for places says
+module _ (order : Order) (size : ℕ) (is : size ≡ records order.geometry) where
+  form_tested : (t s : Bool) → t ≡ any_below (λ i. leb size (get_or order.rows i 0)) order.geometry.n
+      → s ≡ any_below (λ i. leb order.geometry.n i && not (eqb (get_or order.rows i 0) 0)) ROWS
+      → bad_form order ≡ (t || leb size order.complement) || s
+  unfolding bad_form stray_row stray_complement spare_row
+  form_tested t s rows places = rw (rows, places, is)
 
 -- ---- checks one after the other: a number that refuses is not passed by, and 0 says that none applies
 pub or_later_stops : (k later : ℕ) → (k ≡ 0 → ⊥) → or_later k later ≡ k
@@ -107,7 +95,7 @@ module _ (order : Order) where
   z_other {k} f = ap (λ (t : Bool). cond t (kernel order.geometry.n (matrix_of order)) 0) (ne_eqb k 3 f)
 
   -- the form's number isn't 3, and has no z
-  form_other : form_number order ≡ 3 → ⊥
+  pub form_other : form_number order ≡ 3 → ⊥
   unfolding form_number
   form_other = go (not (in_limits order.geometry)) (bad_form order)
     where
@@ -147,10 +135,10 @@ module _ (order : Order) (below : (i : ℕ) → i < order.geometry.n → get_or 
   pub good_form : bad_form order ≡ false
   good_form =
       let size = records order.geometry in
-      by_place order size refl false
+      form_tested order size refl false false
       (sym (none_intro (λ i. leb size (get_or order.rows i 0)) order.geometry.n (λ k h. lt-leb size (get_or order.rows k 0) (below k h))))
-      refl complement false
       (sym (none_intro (λ i. leb order.geometry.n i && not (eqb (get_or order.rows i 0) 0)) ROWS (λ k h. at_zero k (leb order.geometry.n k) refl h)))
+      ∙ ap (λ (b : Bool). b || false) (lt-leb size order.complement complement)
 
 -- words are below N where n is WORD, and no place is beyond the rows
 pub word_form : (order : Order) → Words order → order.geometry.n ≡ WORD → bad_form order ≡ false

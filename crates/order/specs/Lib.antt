@@ -1,2 +1,3 @@
 -- An order and its judgement.
 pub mod Order
+pub mod Checked

@@ -3,13 +3,16 @@
 
 pub mod form; // form.rt: stray bits, and places meant to be zero
 
-ghost use Rattle.std.specs.Prelude.{◌≡◌, ◌≤◌};
+ghost use Rattle.std.specs.Prelude.{◌≡◌, ◌||◌, ◌≤◌};
 ghost use Rattle.bank.specs.Limits;
-ghost use Rattle.bank.specs.Checks.{refuse};
-ghost use Rattle.order.specs.Order.{bad_form, form_number, verdict};
+ghost use Rattle.bank.specs.Refusal.{number_in};
+ghost use Rattle.order.specs.Order.{stray_row, stray_complement, bad_form, form_number, verdict};
+ghost use Rattle.order.specs.Checked.{verdict_of};
 
 use crate::form::{spare, stray};
+use bank::refusal::Refusal;
 use bank::{Address, Geometry, ROWS};
+use elimination::questions::kernel;
 
 // The order sends address x to Ax xor c: `rows` has the rows of A, `complement` is c.
 #[derive(Clone, Copy)]
@@ -20,10 +23,20 @@ pub struct Order {
 }
 
 // The judgement of an order: the number and, with 3, the least nonzero address z that A sends to zero; 0 with every other number.
+// The number is a field, as `Sends` and `Numbers` (demands) speak of it; so it is in the answers of the crates above.
 #[derive(Clone, Copy)]
 pub struct Verdict {
     pub number: u8,
     pub z: Address,
+}
+
+// Whether a bit of a row or of the complement is at n or above.
+fn has_stray(order: Order) -> bool
+    requires { order.geometry.n ≤ Limits.ROWS }
+    ensures { result ≡ stray_row order || stray_complement order }
+{
+    let size = bank::power(order.geometry.n);
+    stray(&order.rows[..order.geometry.n as usize], size) || size <= u64::from(order.complement)
 }
 
 // Whether the order isn't in good form, in a geometry inside the limits.
@@ -31,50 +44,45 @@ fn bad_form(order: Order) -> bool
     requires { order.geometry.n ≤ Limits.ROWS }
     ensures { result ≡ bad_form order }
 {
-    let rows = order.rows;
-    let n = order.geometry.n as usize;
-    let size = bank::power(order.geometry.n);
-    if stray(&rows, n, size) {
-        return true;
-    }
-    if size <= bank::wide(order.complement) {
-        return true;
-    }
-    spare(&rows, n)
+    has_stray(order) || spare(&order.rows, order.geometry.n as usize)
 }
 
-// A check: its number where it applies, else what the later checks say.
-pub fn refuse(applies: bool, number: u8, later: u8) -> u8
-    ensures { result ≡ refuse applies number later }
-{
-    if applies { number } else { later }
-}
-
-// The checks that need no elimination: 1 for the geometry, 2 for the form, or 0.
-pub fn form_number(order: Order) -> u8
-    ensures { result ≡ form_number order }
+// The checks that need no elimination: the geometry, and then the form.
+pub fn check_form(order: Order) -> Result<(), Refusal>
+    ensures { number_in result ≡ form_number order }
 {
     if !bank::in_limits(order.geometry) {
-        return 1;
+        return Err(Refusal::Geometry);
     }
-    refuse(bad_form(order), 2, 0)
+    if bad_form(order) {
+        return Err(Refusal::Form);
+    }
+    Ok(())
 }
 
-// The judgement of an order: 1, 2, 3 or 0, the first that applies. The elimination that tells 3 tells z.
+// The checks of an order, the first that applies. The elimination that tells whether the matrix is singular tells z.
+pub fn check(order: Order) -> Result<(), Refusal>
+    ensures { verdict_of result ≡ verdict order }
+{
+    check_form(order)?;
+    match kernel(&order.rows[..order.geometry.n as usize]) {
+        0 => Ok(()),
+        z => Err(Refusal::Singular(Address(u64::from(z)))),
+    }
+}
+
+// The judgement of an order: 1, 2, 3 or 0, the first that applies.
 pub fn judge(order: Order) -> Verdict
     ensures { result ≡ verdict order }
 {
-    let number = form_number(order);
-    if number != 0 {
-        return Verdict {
-            number,
+    match check(order) {
+        Ok(()) => Verdict {
+            number: 0,
             z: Address(0),
-        };
-    }
-    let rows = order.rows;
-    let z = elimination::questions::kernel(&rows, order.geometry.n as usize);
-    Verdict {
-        number: refuse(z != 0, 3, 0),
-        z: Address(bank::wide(z)),
+        },
+        Err(refusal) => Verdict {
+            number: refusal.number(),
+            z: refusal.z(),
+        },
     }
 }

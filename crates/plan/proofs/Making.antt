@@ -1,14 +1,13 @@
 -- What has the making of a plan stored, and what is still to come? Assumes nothing.
 use mathlib.Core.Path.{◌∙◌, ◌≡◌, ap, ap₂, refl, subst, sym}
-use mathlib.Core.Bool.{Bool, ◌&&◌, false, true}
+use mathlib.Core.Bool.{Bool, ◌&&◌, cond, false, true}
 use mathlib.Core.List.{List, [], ◌∷◌, ◌++◌, append_assoc, map}
 use Prim.Native.Nat.{◌+◌, ◌-◌, ◌<◌, ◌≤◌, ℕ}
 use native.Mathlib.Nat.{sub-zero}
 use native.Mathlib.Omega.{arith}
 use lib.Dec.{eqb}
-use lib.ListN.{drop, length, length-append, length-map, replicate, take}
+use lib.ListN.{length, length-append, length-map, replicate, take}
 use lib.Seq.{ext_get_or, length-take-le}
-use borrow.Author.Tests.{eq-eqb, ne_eqb}
 use Rattle.bank.proofs.Limits.{limits→allowed, Allowed}
 use Rattle.bank.specs.Geometry.{in_limits}
 use Rattle.bank.specs.Limits.{PASSES, ROWS}
@@ -18,7 +17,6 @@ use Rattle.algebra.specs.Vector.{comb}
 use Rattle.algebra.proofs.Columns.{columns-length, identity_at, identity-length}
 use Rattle.algebra.proofs.Linear.{comb_one, after-length, after_at}
 use Rattle.algebra.proofs.Lists.{All}
-use Rattle.algebra.proofs.Questions.{columns_whole}
 use Rattle.algebra.proofs.Rank.{rank-le}
 use Rattle.planning.specs.Columns.{phi}
 use Rattle.planning.specs.Making.{busy, first_after, operations, pass_matrices, passes_for, passes_made, round_left, round_pass, rounds}
@@ -31,18 +29,10 @@ use Rattle.planning.proofs.Round.{next_nonzero, next_ready}
 use Rattle.planning.proofs.Rounds.{Good, busy_some, complemented_more, round_good, rounds_go, rounds_good, rounds-length, rounds_stop}
 use Rattle.planning.proofs.Run.{first_length, moved_nonzero, moved_ready}
 use Rattle.planning.proofs.Step2.{operations-length, operations-inverse}
-use Rattle.planner.proofs.Steps.{held-take}
 use Rattle.rounds.proofs.Products.{take_front}
 use Rattle.store.specs.Store.{with_pass}
 use Rattle.store.proofs.Storing.{stored_more}
 use Rattle.planning.specs.Inner.{RoundReady}
-
--- the rows of A Q, array by array
-pub rows_code : (room n : ℕ) (a q both r : List ℕ) → n ≤ room → length both ≡ room → both ≡ after (take n a) (take n q) ++ replicate (room - n) 0
-    → r ≡ columns n (take (n - 0) (drop 0 both)) ++ replicate (room - n) 0 → r ≡ columns n (after (take n a) (take n q)) ++ replicate (room - n) 0
-rows_code room n a q both r h l e f =
-    columns_whole room n both r f
-    ∙ ap (λ (x : List ℕ). columns n x ++ replicate (room - n) 0) (held-take room n both (after (take n a) (take n q)) h l e)
 
 -- A times the identity is A
 after-identity : (n : ℕ) (a : List ℕ) → length a ≡ n → after a (identity n) ≡ a
@@ -74,6 +64,7 @@ pub record Making (g : Geometry) (blanks : Bool) (n b m c : ℕ) (all : List Pas
   pub stored : plan ≡ plan_of (record { geometry = g; blanks = blanks; passes = done })
   pub comes : done ++ ahead (m - p) n b m cols q c ≡ all
   pub ready : RoundReady n m cols
+  pub q_long : length q ≡ n
   pub enough : nonzero m cols ≤ m - p
 
 module _ {g : Geometry} {blanks : Bool} {n b m c : ℕ} {all : List Pass} {plan : Plan} {cols q : List ℕ} {p : ℕ} (k : Making g blanks n b m c all plan cols q p) where
@@ -140,17 +131,22 @@ module _ {g : Geometry} {blanks : Bool} {n b m c : ℕ} {all : List Pass} {plan 
 
     -- what the round stores, and leaves
     pub make_once : (pass left unit rows : List ℕ) (plan' : Plan)
-        → pass ≡ made ++ replicate (ROWS - n) 0
-        → left ≡ next ++ replicate (ROWS - n) 0
+        → pass ≡ round_pass (length cols) b m cols ++ replicate (ROWS - length cols) 0
+        → left ≡ round_left (length cols) b m cols ++ replicate (ROWS - length cols) 0
         → unit ≡ identity n ++ replicate (ROWS - n) 0
-        → rows ≡ columns n (after (take n pass) q) ++ replicate (ROWS - n) 0
+        → rows ≡ columns (length q) (after (take n pass) q) ++ replicate (ROWS - length q) 0
         → plan' ≡ with_pass plan p rows 0
         → Making g blanks n b m c all plan' (take n left) (take n unit) (p + 1)
     make_once pass left unit rows plan' e1 e2 e3 e4 e5 =
         let x : Pass = record { rows = columns n (after made q); complement = 0 } in
-        let pass_is : take n pass ≡ made = take_front n pass made (replicate (ROWS - n) 0) made_length e1 in
-        let left_is : take n left ≡ next = take_front n left next (replicate (ROWS - n) 0) still.long e2 in
-        let unit-is : take n unit ≡ identity n = take_front n unit (identity n) (replicate (ROWS - n) 0) (identity-length n) e3 in
+        let room : List ℕ = replicate (ROWS - n) 0 in
+        let pass_is : take n pass ≡ made
+        = take_front n pass made room made_length (e1 ∙ ap (λ (i : ℕ). round_pass i b m cols ++ replicate (ROWS - i) 0) k.ready.long) in
+        let left_is : take n left ≡ next
+        = take_front n left next room still.long (e2 ∙ ap (λ (i : ℕ). round_left i b m cols ++ replicate (ROWS - i) 0) k.ready.long) in
+        let unit-is : take n unit ≡ identity n = take_front n unit (identity n) room (identity-length n) e3 in
+        let rows_are : rows ≡ columns n (after made q) ++ room
+        = e4 ∙ ap₂ (λ (i : ℕ) (l : List ℕ). columns i (after l q) ++ replicate (ROWS - i) 0) k.q_long pass_is in
         record {
           below = k.below;
           memory_below = k.memory_below;
@@ -158,107 +154,119 @@ module _ {g : Geometry} {blanks : Bool} {n b m c : ℕ} {all : List Pass} {plan 
           few = k.few;
           done = k.done ++ (x ∷ []);
           counted = length-append k.done (x ∷ []) ∙ ap (λ (i : ℕ). i + 1) k.counted;
-          stored = put (columns n (after made q)) rows 0 plan' (columns-length n (after made q)) (e4 ∙ rw pass_is refl) e5;
+          stored = put (columns n (after made q)) rows 0 plan' (columns-length n (after made q)) rows_are e5;
           comes =
               ap₂ (λ (l u : List ℕ). (k.done ++ (x ∷ [])) ++ ahead (m - (p + 1)) n b m l u c) left_is unit-is
               ∙ append_assoc k.done (x ∷ []) (ahead (m - (p + 1)) n b m next (identity n) c) ∙ ap (λ (l : List Pass). k.done ++ l) comes_once ∙ k.comes;
           ready = subst (RoundReady n m) (sym left_is) still;
+          q_long = ap length unit-is ∙ identity-length n;
           enough = subst (λ (l : List ℕ). nonzero m l ≤ m - (p + 1)) (sym left_is) fewer;
         }
 
   module _ (none : busy m cols ≡ false) where
-    pub make_end : (rows : List ℕ) (plan' : Plan) → rows ≡ columns n (after cols q) ++ replicate (ROWS - n) 0 → plan' ≡ with_pass plan p rows c
-        → plan' ≡ plan_of (record { geometry = g; blanks = blanks; passes = all })
+    pub make_end : (rows : List ℕ) (plan' : Plan) → rows ≡ columns (length q) (after cols q) ++ replicate (ROWS - length q) 0
+        → plan' ≡ with_pass plan p rows c → plan' ≡ plan_of (record { geometry = g; blanks = blanks; passes = all })
     unfolding first_after complemented
     make_end rows plan' e is =
-        put (columns n (after cols q)) rows c plan' (columns-length n (after cols q)) e is
+        put (columns n (after cols q)) rows c plan' (columns-length n (after cols q))
+        (e ∙ ap (λ (i : ℕ). columns i (after cols q) ++ replicate (ROWS - i) 0) k.q_long) is
         ∙ ap (λ (l : List Pass). plan_of (record { geometry = g; blanks = blanks; passes = l }))
         (ap (λ (l : List (List ℕ)). k.done ++ complemented (map (columns n) (first_after l q)) c) (sym (rounds_stop (m - p) n b m cols none)) ∙ k.comes)
 
 -- ---- the order A, c, in the arrays that hold A P and P
-module _ (g : Geometry) (array : List ℕ) (c : ℕ) (blanks : Bool) (inside : in_limits g ≡ true) (long : length array ≡ ROWS)
-    (regular : singular g.n (take g.n array) ≡ false) (cols q : List ℕ)
-    (cols-is : cols ≡ after (columns g.n (take g.n array)) (operations g.n g.m (columns g.n (take g.n array))) ++ replicate (ROWS - g.n) 0)
-    (q-is : q ≡ operations g.n g.m (columns g.n (take g.n array)) ++ replicate (ROWS - g.n) 0) where
+module _ (g : Geometry) (rows : List ℕ) (c : ℕ) (blanks : Bool) (inside : in_limits g ≡ true) (long : length rows ≡ g.n)
+    (regular : singular g.n rows ≡ false) (cols q : List ℕ)
+    (cols-is : cols ≡ after (columns (length rows) rows) (operations (length rows) g.m (columns (length rows) rows)) ++ replicate (ROWS - length rows) 0)
+    (q-is : q ≡ operations (length rows) g.m (columns (length rows) rows) ++ replicate (ROWS - length rows) 0) where
   k : Allowed g
   k = limits→allowed g inside
 
-  abbrev rows : List ℕ
-  rows = take g.n array
+  abbrev n : ℕ
+  n = length rows
 
   abbrev P : List ℕ
-  P = operations g.n g.m (columns g.n (take g.n array))
+  P = operations n g.m (columns n rows)
 
   abbrev moved : List ℕ
-  moved = after (columns g.n (take g.n array)) (operations g.n g.m (columns g.n (take g.n array)))
+  moved = after (columns n rows) (operations n g.m (columns n rows))
 
   abbrev all : List Pass
-  all = ahead g.m g.n g.b g.m (take g.n cols) (take g.n q) c
+  all = ahead g.m n g.b g.m (take n cols) (take n q) c
 
-  hm : g.m ≤ g.n
-  hm = omega (arith, k.memory_below)
+  above : g.m < n
+  above = omega (arith, k.memory_below)
 
-  rows_length : length rows ≡ g.n
-  rows_length = length-take-le g.n array (omega (arith, k.n_high))
+  hm : g.m ≤ n
+  hm = omega (arith, above)
 
-  moved_is : RoundReady g.n g.m moved
-  moved_is = moved_ready g.n g.b g.m k.block_below hm rows rows_length regular
+  odd : singular n rows ≡ false
+  odd = subst (λ (i : ℕ). singular i rows ≡ false) (sym long) regular
 
-  cols_front : take g.n cols ≡ moved
-  cols_front = take_front g.n cols moved (replicate (ROWS - g.n) 0) moved_is.long cols-is
+  moved_is : RoundReady n g.m moved
+  moved_is = moved_ready n g.b g.m k.block_below hm rows refl odd
 
-  q_front : take g.n q ≡ P
-  q_front = take_front g.n q P (replicate (ROWS - g.n) 0) (operations-length g.n g.m hm (columns g.n rows)) q-is
+  cols_front : take n cols ≡ moved
+  cols_front = take_front n cols moved (replicate (ROWS - n) 0) moved_is.long cols-is
+
+  q_front : take n q ≡ P
+  q_front = take_front n q P (replicate (ROWS - n) 0) (operations-length n g.m hm (columns n rows)) q-is
 
   -- at the start all passes are to come
   all_ahead : passes_made g rows c ≡ all
   unfolding pass_matrices
   all_ahead =
-      ap (λ (l : List ℕ). ahead g.m g.n g.b g.m moved l c) (operations-inverse g.n g.m hm (columns g.n rows))
-      ∙ sym (ap₂ (λ (l p : List ℕ). ahead g.m g.n g.b g.m l p c) cols_front q_front)
+      ap (λ (i : ℕ). complemented (pass_matrices i g.b g.m rows) c) (sym long)
+      ∙ ap (λ (l : List ℕ). ahead g.m n g.b g.m moved l c) (operations-inverse n g.m hm (columns n rows))
+      ∙ sym (ap₂ (λ (l p : List ℕ). ahead g.m n g.b g.m l p c) cols_front q_front)
 
-  start : Making g blanks g.n g.b g.m c all (plan_of (record { geometry = g; blanks = blanks; passes = [] })) (take g.n cols) (take g.n q) 0
+  start : Making g blanks n g.b g.m c all (plan_of (record { geometry = g; blanks = blanks; passes = [] })) (take n cols) (take n q) 0
   start = record {
     below = k.block_below;
-    memory_below = k.memory_below;
-    wide = k.n_high;
-    few = subst (λ (l : List Pass). length l ≤ PASSES) all_ahead (made_few g rows c inside rows_length regular);
+    memory_below = above;
+    wide = omega (arith, k.n_high);
+    few = subst (λ (l : List Pass). length l ≤ PASSES) all_ahead (made_few g rows c inside long regular);
     done = [];
     counted = refl;
     stored = refl;
-    comes = ap (λ (i : ℕ). ahead i g.n g.b g.m (take g.n cols) (take g.n q) c) (sub-zero g.m);
-    ready = subst (RoundReady g.n g.m) (sym cols_front) moved_is;
+    comes = ap (λ (i : ℕ). ahead i n g.b g.m (take n cols) (take n q) c) (sub-zero g.m);
+    ready = subst (RoundReady n g.m) (sym cols_front) moved_is;
+    q_long = ap length q_front ∙ operations-length n g.m hm (columns n rows);
     enough =
         subst (λ (l : List ℕ). nonzero g.m l ≤ g.m - 0) (sym cols_front)
-        (omega (arith, moved_nonzero g.n g.b g.m k.block_below hm rows rows_length regular, rank-le (phi g.m (columns g.n rows)) g.m));
+        (omega (arith, moved_nonzero n g.b g.m k.block_below hm rows refl odd, rank-le (phi g.m (columns n rows)) g.m));
   }
 
   -- the plan that the passes go into
   module _ (plan : Plan) (e : plan ≡ plan_of (record { geometry = g; blanks = blanks; passes = [] })) where
-    pub make_start : Making plan.geometry plan.blanks g.n g.b g.m c all plan (take g.n cols) (take g.n q) 0
+    pub make_start : Making plan.geometry plan.blanks n g.b g.m c all plan (take n cols) (take n q) 0
     unfolding plan_of
-    make_start = subst (λ (x : Plan). Making x.geometry x.blanks g.n g.b g.m c all x (take g.n cols) (take g.n q) 0) (sym e) start
+    make_start = subst (λ (x : Plan). Making x.geometry x.blanks n g.b g.m c all x (take n cols) (take n q) 0) (sym e) start
 
     -- and where all are stored, the plan is made
     pub make_whole : plan_of (record { geometry = plan.geometry; blanks = plan.blanks; passes = all }) ≡ plan_of (record { geometry = g; blanks = blanks; passes = passes_made g rows c })
     unfolding plan_of
     make_whole = ap₂ (λ (x : Plan) (l : List Pass). plan_of (record { geometry = x.geometry; blanks = x.blanks; passes = l })) e (sym all_ahead)
 
+-- an array has n rows at its front
+module _ (g : Geometry) (array : List ℕ) (inside : in_limits g ≡ true) (whole : length array ≡ ROWS) where
+  pub front_room : g.n ≤ length array
+  front_room = omega (arith, (limits→allowed g inside).n_high)
+
+  pub front_long : length (take g.n array) ≡ g.n
+  front_long = length-take-le g.n array front_room
+
 -- ---- the order's plan, by the test for an order that moves no record
-module _ (g : Geometry) (rows : List ℕ) (c : ℕ) (blanks : Bool) where
-  pub plan_none : is_identity g.n rows && eqb c 0 ≡ true → plan_of (record { geometry = g; blanks = blanks; passes = [] }) ≡ plan_for g rows c blanks
+module _ (g : Geometry) (rows : List ℕ) (c : ℕ) (blanks : Bool) (long : length rows ≡ g.n) where
+  pub plan_none : is_identity (length rows) rows && eqb c 0 ≡ true
+      → plan_of (record { geometry = g; blanks = blanks; passes = [] }) ≡ plan_for g rows c blanks
   unfolding plan_for passes_for
-  plan_none e = rw e refl
+  plan_none e =
+      ap (λ (t : Bool). plan_of (record { geometry = g; blanks = blanks; passes = cond t [] (passes_made g rows c) }))
+      (sym (ap (λ (i : ℕ). is_identity i rows && eqb c 0) (sym long) ∙ e))
 
-  pub plan_some : is_identity g.n rows && eqb c 0 ≡ false → plan_of (record { geometry = g; blanks = blanks; passes = passes_made g rows c }) ≡ plan_for g rows c blanks
+  pub plan_some : is_identity (length rows) rows && eqb c 0 ≡ false
+      → plan_of (record { geometry = g; blanks = blanks; passes = passes_made g rows c }) ≡ plan_for g rows c blanks
   unfolding plan_for passes_for
-  plan_some e = rw e refl
-
--- the test itself: by c alone where that isn't 0, and else by the rows
-pub test_moved : (a : Bool) (c : ℕ) → (c ≡ 0 → ⊥) → a && eqb c 0 ≡ false
-test_moved true c h = ne_eqb c 0 h
-test_moved false c h = refl
-
-pub test_rows : (a : Bool) (c : ℕ) → c ≡ 0 → a && eqb c 0 ≡ a
-test_rows true c e = eq-eqb c 0 e
-test_rows false c e = refl
+  plan_some e =
+      ap (λ (t : Bool). plan_of (record { geometry = g; blanks = blanks; passes = cond t [] (passes_made g rows c) }))
+      (sym (ap (λ (i : ℕ). is_identity i rows && eqb c 0) (sym long) ∙ e))

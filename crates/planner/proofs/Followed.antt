@@ -1,24 +1,22 @@
--- What stands where, in one list after another? Assumes nothing.
-use mathlib.Core.Path.{◌∙◌, ◌≡◌, ap, ap₂, sym}
-use mathlib.Core.List.{List, ◌++◌}
-use Prim.Native.Nat.{◌+◌, ◌-◌, ◌<◌, ◌≤◌, ℕ}
-use native.Mathlib.Nat.{add-zero}
-use lib.ListN.{get_or, length, length-append, replicate, take}
-use lib.Seq.{get_or-append-add, get_or-take, length-take-le, take_at}
-use Rattle.matrix.proofs.Filled.{filled}
+-- What does an array of zeros hold, when one list is copied to its front and another one behind it? Assumes nothing.
+use mathlib.Core.Path.{◌∙◌, ◌≡◌, ap, ap₂, refl, sym}
+use mathlib.Core.List.{List, ◌++◌, append_assoc}
+use Prim.Native.Nat.{◌+◌, ◌-◌, ◌≤◌, ℕ}
+use native.Mathlib.Omega.{arith}
+use borrow.Rule.Slice.PartMut.{put_mid}
+use lib.ListN.{drop, length, replicate}
+use lib.Seq.{drop_at, take_at}
+use Rattle.std.proofs.lemmas.List.{drop-replicate}
 
-module _ (room k l : ℕ) (first second : List ℕ) (hk : k ≤ length first) (hl : l ≤ length second) where
-  front : length (take k first) ≡ k
-  front = length-take-le k first hk
-
-  pub followed_length : length (take k first ++ take l second) ≡ k + l
-  followed_length = length-append (take k first) (take l second) ∙ ap₂ (λ (x y : ℕ). x + y) front (length-take-le l second hl)
-
-  pub followed_start : first ≡ take k first ++ replicate (room - k) 0 → first ≡ filled room (take k first ++ take l second) (k + 0)
-  followed_start e =
-      e ∙ ap (λ (p : List ℕ). p ++ replicate (room - k) 0) (sym (take_at (take k first) (take l second) k front))
-      ∙ ap (filled room (take k first ++ take l second)) (sym (add-zero k))
-
-  pub followed_at : (i : ℕ) → i < l → get_or (take k first ++ take l second) (k + i) 0 ≡ get_or second i 0
-  followed_at i h =
-      ap (λ (x : ℕ). get_or (take k first ++ take l second) (x + i) 0) (sym front) ∙ get_or-append-add (take k first) (take l second) i 0 ∙ get_or-take l second i 0 h
+pub followed_is : (room : ℕ) (first second u v : List ℕ) → length first + length second ≤ room → u ≡ first → v ≡ second
+    → put_mid (length first) (length first + length second - length first) (u ++ drop (length first) (replicate room 0)) v
+    ≡ (first ++ second) ++ replicate (room - (length first + length second)) 0
+followed_is room first second u v h eu ev =
+    let n = length first in
+    let k = n + length second - n in
+    let zeros : List ℕ = replicate room 0 in
+    let left : drop k (drop n zeros) ≡ replicate (room - (n + length second)) 0 =
+    ap (drop k) (drop-replicate n room 0) ∙ drop-replicate k (room - n) 0 ∙ ap (λ (m : ℕ). replicate m 0) (omega arith) in
+    ap₂ (λ (a b : List ℕ). put_mid n k (a ++ drop n zeros) b) eu ev
+    ∙ ap₂ (λ (a b : List ℕ). a ++ (second ++ drop k b)) (take_at first (drop n zeros) n refl) (drop_at first (drop n zeros) n refl)
+    ∙ ap (λ (b : List ℕ). first ++ (second ++ b)) left ∙ sym (append_assoc first second (replicate (room - (n + length second)) 0))

@@ -1,4 +1,3 @@
-pub mod Lower
 pub mod Masks
 pub mod Marked
 pub mod Followed

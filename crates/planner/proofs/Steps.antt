@@ -8,10 +8,9 @@ use native.Mathlib.Nat.{add-zero, le_refl, sub-zero, zero-add}
 use native.Mathlib.Omega.{arith}
 use lib.Bits.{bit_xor}
 use lib.Dec.{eqb}
-use lib.ListN.{get_or-append, get_or-eq_default, drop, get_or, length, length-append, length-replicate, replicate, take}
-use lib.Seq.{take_at, take-take}
+use lib.ListN.{get_or-append, get_or-eq_default, drop, get_or, length, length-append, length-drop, length-map, take}
+use lib.Seq.{length-take-le, take_all, take_at}
 use lib.Pow.{pow_pos}
-use Rattle.algebra.proofs.Built.{built_same}
 use Rattle.algebra.proofs.Columns.{columns-length}
 use Rattle.algebra.proofs.Digits.{bit_shr, unless_no}
 use Rattle.algebra.proofs.Linear.{comb_one, after-length}
@@ -28,7 +27,6 @@ use Rattle.planning.proofs.Step2.{summands_high, summands-marked}
 use Rattle.planning.specs.Columns.{adding, delta, phi}
 use Rattle.planning.specs.Making.{chosen, partner, operations, reached, step1, step2, summands, unmarked}
 use Rattle.planner.specs.Marks.{bare, mask_of, places_of}
-use Rattle.planner.proofs.Lower.{delta-lower}
 use Rattle.planner.proofs.Marked.{marked_front}
 use Rattle.planner.proofs.Masks.{bare_high, bare_in, bare_low, mask_bit, one_if_is}
 
@@ -36,33 +34,29 @@ use Rattle.planner.proofs.Masks.{bare_high, bare_in, bare_low, mask_bit, one_if_
 pub adding_column : (g : ℕ → ℕ) (n j : ℕ) → j < n → get_or (adding g n) j 0 ≡ bit_xor (2 ^ j) (g j)
 adding_column g n j h = sym (comb_one (adding g n) j) ∙ adding_at g n j h
 
--- ---- a list in an array, with zeros after it
-module _ (room k : ℕ) (array list : List ℕ) (fits : k ≤ room) (long : length array ≡ room) (is : array ≡ list ++ replicate (room - k) 0) where
-  held-length : length list ≡ k
-  held-length = omega (arith, simp (length-append, length-replicate) at (ap length is))
+-- the first n of an array that begins with a list of n
+front : (n : ℕ) (x l z : List ℕ) → length l ≡ n → x ≡ l ++ z → take n x ≡ l
+front n x l z h e = ap (take n) e ∙ take_at l z n h
 
-  pub held-take : take k array ≡ list
-  held-take = ap (take k) is ∙ take_at list (replicate (room - k) 0) k held-length
-
-  pub held_filled : array ≡ take k array ++ replicate (room - k) 0
-  held_filled = is ∙ ap (λ (l : List ℕ). l ++ replicate (room - k) 0) (sym held-take)
-
--- ---- the lower parts of the first n columns
-phi-lower : (n m : ℕ) (cols : List ℕ) → m ≤ n → map (λ v. v / 2 ^ m) (take (m - 0) (drop 0 cols)) ≡ phi m (take n cols)
+-- ---- how many columns the lower parts have
+phi-length : (m : ℕ) (cols : List ℕ) → m ≤ length cols → length (phi m cols) ≡ m
 unfolding phi
-phi-lower n m cols h = ap (map (λ v. v / 2 ^ m)) (ap (λ (k : ℕ). take k cols) (sub-zero m) ∙ sym (take-take m n cols h))
+phi-length m cols h = length-map (take m cols) (λ v. v / 2 ^ m) ∙ length-take-le m cols h
+
+delta-length : (m : ℕ) (cols : List ℕ) → length (delta m cols) ≡ length cols - m
+unfolding delta
+delta-length m cols = length-map (drop m cols) (λ v. v / 2 ^ m) ∙ length-drop m cols
 
 one_if_not : (b : Bool) → eqb (one_if b) 0 ≡ not b
 one_if_not true = refl
 one_if_not false = refl
 
 -- ---- step 1: the set holds the marked columns of δ, and behind them those of φ that are marked behind δ's
-module _ (n m : ℕ) (hm : m ≤ n) (cols : List ℕ) (hd : length (delta m cols) ≡ n - m) (hf : length (phi m cols) ≡ m) (tail : List ℕ) (set : ℕ)
-    (is : set ≡ mask_of (marked ((delta m cols ++ phi m cols) ++ tail)) n) where
+module _ (n m : ℕ) (hm : m ≤ n) (cols : List ℕ) (hd : length (delta m cols) ≡ n - m) (hf : length (phi m cols) ≡ m) (set : ℕ)
+    (is : set ≡ mask_of (marked (delta m cols ++ phi m cols)) n) where
   at : (i : ℕ) → i < n → bit set i ≡ one_if (marked (delta m cols ++ phi m cols) i)
   at i h =
-      ap (λ (s : ℕ). bit s i) is ∙ mask_bit (marked ((delta m cols ++ phi m cols) ++ tail)) n i h
-      ∙ ap one_if (marked_front (delta m cols ++ phi m cols) tail i (omega (arith, length-append (delta m cols) (phi m cols))))
+      ap (λ (s : ℕ). bit s i) is ∙ mask_bit (marked (delta m cols ++ phi m cols)) n i h
 
   set-delta : (u : ℕ) → u < n - m → bit set u ≡ one_if (marked (delta m cols) u)
   set-delta u h = at u (omega arith) ∙ ap one_if (marked_front (delta m cols) (phi m cols) u (omega arith))
@@ -94,41 +88,39 @@ module _ (n m : ℕ) (hm : m ≤ n) (cols : List ℕ) (hd : length (delta m cols
   unfolding step1
   step1_paired = ap₂ (λ (us ws : List ℕ). adding (partner us ws) n) unmarked-bare chosen_places
 
--- the same of arrays: δ and φ with zeros after them, and one behind the other
-pub step1_code : (room n m : ℕ) → m ≤ n → n ≤ room → (cols d f both : List ℕ) (set : ℕ) → length d ≡ room → length f ≡ room
-    → d ≡ map (λ v. v / 2 ^ m) (take (n - m) (drop m cols)) ++ replicate (room - (n - m)) 0
-    → f ≡ map (λ v. v / 2 ^ m) (take (m - 0) (drop 0 cols)) ++ replicate (room - (m - 0)) 0
-    → both ≡ (take (n - m) d ++ take m f) ++ replicate (room - (n - m + m)) 0 → set ≡ mask_of (marked both) n
-    → step1 n m (take n cols) ≡ adding (partner (which (bare set m n) n 0) (places_of m (set / 2 ^ (n - m)))) n
-step1_code room n m hm hn cols d f both set ld lf ed ef eb es =
-    let D = delta m (take n cols) in
-    let F = phi m (take n cols) in
-    let pd : d ≡ D ++ replicate (room - (n - m)) 0 = ed ∙ ap (λ (l : List ℕ). l ++ replicate (room - (n - m)) 0) (delta-lower n m cols) in
-    let pf : f ≡ F ++ replicate (room - m) 0 = ef ∙ ap₂ (λ (l : List ℕ) (k : ℕ). l ++ replicate (room - k) 0) (phi-lower n m cols hm) (sub-zero m) in
-    let td = held-take room (n - m) d D (omega arith) ld pd in
-    let tf = held-take room m f F (omega arith) lf pf in
-    step1_paired n m hm (take n cols) (held-length room (n - m) d D (omega arith) ld pd) (held-length room m f F (omega arith) lf pf)
-    (replicate (room - (n - m + m)) 0) set
-    (es ∙ ap (λ (l : List ℕ). mask_of (marked l) n) (eb ∙ ap₂ (λ (a b : List ℕ). (a ++ b) ++ replicate (room - (n - m + m)) 0) td tf))
+-- the same of arrays: δ and φ with something after them, and one behind the other
+pub step1_code : (m : ℕ) (cols : List ℕ) → m ≤ length cols → (d zd f zf both zb : List ℕ) (set : ℕ)
+    → d ≡ map (λ v. v / 2 ^ m) (take (length cols - m) (drop m cols)) ++ zd → f ≡ map (λ v. v / 2 ^ m) (take m cols) ++ zf → both ≡ (take (length cols - m) d ++ take m f) ++ zb
+    → set ≡ mask_of (marked (take (length cols) both)) (length (take (length cols) both))
+    → step1 (length cols) m cols
+    ≡ adding (partner (which (bare set m (length cols)) (length cols) 0) (places_of m (set / 2 ^ (length cols - m)))) (length cols)
+unfolding delta phi
+step1_code m cols hm d zd f zf both zb set ed ef eb es =
+    let n = length cols in
+    let D = delta m cols in
+    let F = phi m cols in
+    let ld = delta-length m cols in
+    let lf = phi-length m cols hm in
+    let long : length (D ++ F) ≡ n = omega (arith, length-append D F, ld, lf) in
+    let rest : take (n - m) (drop m cols) ≡ drop m cols = take_all (n - m) (drop m cols) (omega (arith, length-drop m cols)) in
+    let lower : d ≡ D ++ zd = ed ∙ ap (λ (l : List ℕ). map (λ v. v / 2 ^ m) l ++ zd) rest in
+    let is = front n both (D ++ F) zb long (eb ∙ ap₂ (λ (a b : List ℕ). (a ++ b) ++ zb) (front (n - m) d D zd ld lower) (front m f F zf lf ef)) in
+    step1_paired n m hm cols ld lf set (es ∙ ap (λ (l : List ℕ). mask_of (marked l) (length l)) is ∙ ap (mask_of (marked (D ++ F))) long)
 
 -- ---- step 2: the set holds the marked columns of φ, and the entries are those of φ
 module _ (room n m : ℕ) (hm : m ≤ room) (cols : List ℕ) (hf : length (phi m cols) ≡ m) (tail part : List ℕ) (hp : part ≡ phi m cols ++ tail)
-    (hc : (i : ℕ) → get_or part i 0 < 2 ^ WORD) (set : ℕ) (is : set ≡ mask_of (marked part) m) (e : Echelon) (he : e ≡ built room part m) where
+    (hc : (i : ℕ) → get_or part i 0 < 2 ^ WORD) (set : ℕ) (is : set ≡ mask_of (marked (phi m cols)) m) (e : Echelon) (he : e ≡ built room (phi m cols) m) where
   part_at : (j : ℕ) → j < m → get_or part j 0 ≡ get_or (phi m cols) j 0
   part_at j h = ap (λ (l : List ℕ). get_or l j 0) hp ∙ get_or-append (phi m cols) tail 0 j (omega arith)
 
   set_is : (j : ℕ) → j < m → bit set j ≡ one_if (marked (phi m cols) j)
   set_is j h =
-      ap (λ (s : ℕ). bit s j) is ∙ mask_bit (marked part) m j h ∙ ap (λ (l : List ℕ). one_if (marked l j)) hp
-      ∙ ap one_if (marked_front (phi m cols) tail j (omega arith))
+      ap (λ (s : ℕ). bit s j) is ∙ mask_bit (marked (phi m cols)) m j h
 
   small : (i : ℕ) → get_or (phi m cols) i 0 < 2 ^ WORD
   small i =
       ⊎_elim (λ (h : m ≤ i). rw (get_or-eq_default (phi m cols) 0 {n = i} (omega arith)) (pow_pos WORD))
       (λ (h : i < m). rw (part_at i h) at (hc i)) (le_or_lt m i)
-
-  entries : e ≡ built room (phi m cols) m
-  entries = he ∙ built_same room part (phi m cols) m part_at
 
   summands_code : (j : ℕ) → unless_zero (one_if (bare set 0 m j)) (used_in e (get_or part j 0)) ≡ summands m cols j
   summands_code j = ⊎_elim high low (le_or_lt m j)
@@ -149,43 +141,50 @@ module _ (room n m : ℕ) (hm : m ≤ room) (cols : List ℕ) (hf : length (phi 
           by_test (marked (phi m cols) j)
           (λ q. ap (λ (b : Bool). unless_zero (one_if b) x) (test h ∙ ap not q) ∙ unless_no 0 x refl ∙ sym (summands-marked m cols j q))
           (λ q. ap (λ (b : Bool). unless_zero (one_if b) x) (test h ∙ ap not q) ∙ sym (unless_not 1 x (λ z. omega (arith, z)))
-          ∙ ap₂ used_in entries (part_at j h) ∙ summands-used room m cols WORD (le_refl WORD) hm small j h q)
+          ∙ ap₂ used_in he (part_at j h) ∙ summands-used room m cols WORD (le_refl WORD) hm small j h q)
 
 pub step2-length : (n m : ℕ) (cols : List ℕ) → length (step2 n m cols) ≡ n
 unfolding step2
 step2-length n m cols = adding-length (summands m cols) n
 
--- the same of arrays: φ with zeros after it
-pub step2_code : (room n m : ℕ) → m ≤ n → n ≤ room → (cols f : List ℕ) (set : ℕ) (e : Echelon) → length f ≡ room → ((i : ℕ) → get_or f i 0 < 2 ^ WORD)
-    → f ≡ map (λ v. v / 2 ^ m) (take (m - 0) (drop 0 cols)) ++ replicate (room - (m - 0)) 0 → set ≡ mask_of (marked f) m → e ≡ built room f m → (j : ℕ) → j < n
-    → bit_xor (2 ^ j) (unless_zero (one_if (bare set 0 m j)) (used_in e (get_or f j 0))) ≡ get_or (step2 n m (take n cols)) j 0
-unfolding step2
-step2_code room n m hm hn cols f set e lf hc ef es ee j h =
-    let F = phi m (take n cols) in
-    let pf : f ≡ F ++ replicate (room - m) 0 = ef ∙ ap₂ (λ (l : List ℕ) (k : ℕ). l ++ replicate (room - k) 0) (phi-lower n m cols hm) (sub-zero m) in
-    let long = held-length room m f F (omega arith) lf pf in
-    ap (bit_xor (2 ^ j)) (summands_code room n m (omega arith) (take n cols) long (replicate (room - m) 0) f pf hc set es e ee j)
-    ∙ sym (adding_column (summands m (take n cols)) n j h)
+-- the same of arrays: φ with something after it
+pub step2_code : (room m : ℕ) (cols : List ℕ) → m ≤ room → m ≤ length cols → (f zf : List ℕ) (set : ℕ) (e : Echelon) → ((i : ℕ) → get_or f i 0 < 2 ^ WORD)
+    → f ≡ map (λ v. v / 2 ^ m) (take m cols) ++ zf → set ≡ mask_of (marked (take m f)) (length (take m f))
+    → e ≡ built room (take m f) (length (take m f)) → (j : ℕ) → j < length cols
+    → bit_xor (2 ^ j) (unless_zero (one_if (bare set 0 m j)) (used_in e (get_or f j 0))) ≡ get_or (step2 (length cols) m cols) j 0
+unfolding step2 phi
+step2_code room m cols hr hm f zf set e hc ef es ee j h =
+    let F = phi m cols in
+    let lf = phi-length m cols hm in
+    let is = front m f F zf lf ef in
+    let marks = es ∙ ap (λ (l : List ℕ). mask_of (marked l) (length l)) is ∙ ap (mask_of (marked F)) lf in
+    let entries = ee ∙ ap (λ (l : List ℕ). built room l (length l)) is ∙ ap (built room F) lf in
+    ap (bit_xor (2 ^ j)) (summands_code room (length cols) m hr cols lf zf f ef hc set marks e entries j)
+    ∙ sym (adding_column (summands m cols) (length cols) j h)
 
 -- ---- P and A P
 step1-length : (n m : ℕ) (cols : List ℕ) → length (step1 n m cols) ≡ n
 unfolding step1
 step1-length n m cols = adding-length (partner (unmarked n m cols) (chosen n m cols)) n
 
-pub operate_code : (n m : ℕ) (rows tail a s1 b s2 p ap1 : List ℕ) → a ≡ columns n (take (n - 0) (drop 0 rows)) ++ tail
-    → s1 ≡ step1 n m (take n a) ++ tail → b ≡ after (take n a) (take n s1) ++ tail → s2 ≡ step2 n m (take n b) ++ tail
-    → p ≡ after (take n s1) (take n s2) ++ tail → ap1 ≡ after (take n a) (take n p) ++ tail
-    → (ap1 ≡ after (columns n (take n rows)) (operations n m (columns n (take n rows))) ++ tail) × (p ≡ operations n m (columns n (take n rows)) ++ tail)
+pub operate_code : (n m : ℕ) (rows a za s1 z1 b zb s2 z2 p zp q zq : List ℕ) → a ≡ columns n rows ++ za → s1 ≡ step1 (length (take n a)) m (take n a) ++ z1
+    → b ≡ after (take n a) (take n s1) ++ zb → s2 ≡ step2 (length (take n b)) m (take n b) ++ z2 → p ≡ after (take n s1) (take n s2) ++ zp
+    → q ≡ after (take n a) (take n p) ++ zq
+    → (q ≡ after (columns n rows) (operations n m (columns n rows)) ++ zq) × (p ≡ operations n m (columns n rows) ++ zp)
 unfolding operations
-operate_code n m rows tail a s1 b s2 p ap1 ea e1 eb e2 ep eq =
-    let A = columns n (take n rows) in
+operate_code n m rows a za s1 z1 b zb s2 z2 p zp q zq ea e1 eb e2 ep eq =
+    let A = columns n rows in
     let S = step1 n m A in
-    let taken : (x l : List ℕ) → length l ≡ n → x ≡ l ++ tail → take n x ≡ l = λ x l h e. ap (take n) e ∙ take_at l tail n h in
-    let ta : take n a ≡ A = taken a A (columns-length n (take n rows)) (ea ∙ ap (λ (k : ℕ). columns n (take k rows) ++ tail) (sub-zero n)) in
-    let t1 : take n s1 ≡ S = taken s1 S (step1-length n m A) (e1 ∙ ap (λ (l : List ℕ). step1 n m l ++ tail) ta) in
-    let tb : take n b ≡ after A S = taken b (after A S) (after-length A S ∙ step1-length n m A) (eb ∙ ap₂ (λ (x y : List ℕ). after x y ++ tail) ta t1) in
-    let T = step2 n m (after A S) in
-    let t2 : take n s2 ≡ T = taken s2 T (step2-length n m (after A S)) (e2 ∙ ap (λ (l : List ℕ). step2 n m l ++ tail) tb) in
-    let pp : p ≡ after S T ++ tail = ep ∙ ap₂ (λ (x y : List ℕ). after x y ++ tail) t1 t2 in
-    let tp : take n p ≡ after S T = taken p (after S T) (after-length S T ∙ step2-length n m (after A S)) pp in
-    (eq ∙ ap₂ (λ (x y : List ℕ). after x y ++ tail) ta tp, pp)
+    let la = columns-length n rows in
+    let ta = front n a A za la ea in
+    let t1 =
+    front n s1 S z1 (step1-length n m A) (e1 ∙ ap (λ (l : List ℕ). step1 (length l) m l ++ z1) ta ∙ ap (λ (k : ℕ). step1 k m A ++ z1) la) in
+    let B = after A S in
+    let lb = after-length A S ∙ step1-length n m A in
+    let tb = front n b B zb lb (eb ∙ ap₂ (λ (x y : List ℕ). after x y ++ zb) ta t1) in
+    let T = step2 n m B in
+    let t2 =
+    front n s2 T z2 (step2-length n m B) (e2 ∙ ap (λ (l : List ℕ). step2 (length l) m l ++ z2) tb ∙ ap (λ (k : ℕ). step2 k m B ++ z2) lb) in
+    let pp : p ≡ after S T ++ zp = ep ∙ ap₂ (λ (x y : List ℕ). after x y ++ zp) t1 t2 in
+    let tp = front n p (after S T) zp (after-length S T ∙ step2-length n m B) pp in
+    (eq ∙ ap₂ (λ (x y : List ℕ). after x y ++ zq) ta tp, pp)

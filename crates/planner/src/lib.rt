@@ -1,6 +1,6 @@
-// The operations of planning, steps 1 and 2, on arrays of columns: word operations, one elimination at a time.
+// The operations of planning, steps 1 and 2, on slices of columns: word operations, one elimination at a time.
 #![tactic(auto)]
 
-pub mod columns; // columns.rt: whole columns, and their lower parts
+pub mod columns; // columns.rt: the lower parts of columns
 mod marks; // marks.rt: sets of columns as numbers
 pub mod operations; // operations.rt: steps 1 and 2

@@ -1,27 +1,24 @@
 // Sets of columns as numbers: bit j is 1 where column j is in.
-ghost use Rattle.std.specs.Prelude.{◌≡◌, ◌<◌, ◌≤◌};
+ghost use Rattle.std.specs.Prelude.{◌≡◌, ◌≤◌, length};
 ghost use Rattle.bank.specs.Limits;
 ghost use Rattle.algebra.specs.Matrix.{marked, one_if};
 ghost use Rattle.planner.specs.Marks.{mask_of, lowest_of, bare};
 
-use bank::ROWS;
-use elimination::echelon::{grow, lowest, no_entries, reduce};
+use elimination::echelon::Echelon;
+use elimination::reduce::lowest;
 use matrix::vector::{bit_of, power, unless_zero};
 
-// The marked ones of the first k columns.
-pub(crate) fn marks(cols: [u32; ROWS], k: usize) -> u32
-    requires { k ≤ Limits.ROWS }
-    ensures { result ≡ mask_of (marked cols) k }
+// The marked ones of the columns.
+pub(crate) fn marks(columns: &[u32]) -> u32
+    requires { length columns.now ≤ Limits.ROWS }
+    ensures { result ≡ mask_of (marked columns.now) (length columns.now) }
 {
-    let mut e = no_entries();
-    let mut set: u32 = 0;
-    let mut j: usize = 0;
-    while j < k {
-        let column = cols[j];
-        let r = reduce(e, column, 0);
-        set = set ^ unless_zero(r.left, power(j as u32));
-        e = grow(e, j as u32, column);
-        j += 1;
+    let mut entries = Echelon::new();
+    let mut set = 0;
+    for (j, column) in columns.iter().enumerate() {
+        let left = entries.reduce(*column, 0).left;
+        set ^= unless_zero(left, power(j as u32));
+        entries.grow(j as u32, *column);
     }
     set
 }
@@ -38,10 +35,7 @@ pub(crate) fn bare(set: u32, from: usize, to: usize, j: usize) -> u32
     requires { to ≤ Limits.ROWS }
     ensures { result ≡ one_if (bare set from to j) }
 {
-    if j < from {
-        return 0;
-    }
-    if to <= j {
+    if j < from || to <= j {
         return 0;
     }
     1 ^ bit_of(set, (j - from) as u32)

@@ -1,5 +1,5 @@
 // Steps 1 and 2 of planning: P, and A P.
-ghost use Rattle.std.specs.Prelude.{◌≡◌, ◌++◌, ◌<◌, ◌≤◌, ◌+◌, ◌-◌, ◌/◌, ◌^◌, take, replicate};
+ghost use Rattle.std.specs.Prelude.{◌≡◌, ◌++◌, ◌<◌, ◌≤◌, ◌+◌, ◌-◌, ◌/◌, ◌^◌, length, replicate};
 ghost use Rattle.bank.specs.Limits;
 ghost use Rattle.algebra.specs.Matrix.{columns, after};
 ghost use Rattle.algebra.specs.Search.{which};
@@ -10,7 +10,7 @@ ghost use Rattle.planner.specs.Marks.{places_of, bare};
 use crate::columns::lower;
 use crate::marks::{bare, lowest_of, marks};
 use bank::ROWS;
-use elimination::echelon::{eliminate, reduce};
+use elimination::echelon::Echelon;
 use matrix::rows::{columns, product};
 use matrix::vector::{power, unless_zero};
 
@@ -21,17 +21,15 @@ pub struct Operated {
     pub p: [u32; ROWS],
 }
 
-// The first k of one list of columns and then the first l of another; the places after them hold zero.
-fn followed(first: [u32; ROWS], k: usize, second: [u32; ROWS], l: usize) -> [u32; ROWS]
-    requires { (k + l ≤ Limits.ROWS) × (first ≡ take k first ++ replicate (Limits.ROWS - k) 0) }
-    ensures { result ≡ (take k first ++ take l second) ++ replicate (Limits.ROWS - (k + l)) 0 }
+// Some columns and then others; the places after them hold zero.
+fn followed(first: &[u32], second: &[u32]) -> [u32; ROWS]
+    requires { length first.now + length second.now ≤ Limits.ROWS }
+    ensures { result ≡ (first.now ++ second.now) ++ replicate (Limits.ROWS - (length first.now + length second.now)) 0 }
 {
-    let mut both = first;
-    let mut i = 0;
-    while i < l {
-        both[k + i] = second[i];
-        i += 1;
-    }
+    let mut both = [0; ROWS];
+    let end = first.len() + second.len();
+    both[..first.len()].copy_from_slice(first);
+    both[first.len()..end].copy_from_slice(second);
     both
 }
 
@@ -41,58 +39,57 @@ fn paired(set: u32, n: usize, m: usize) -> [u32; ROWS]
     requires { (m < n) × (n ≤ Limits.ROWS) × (set < 2 ^ n) × (0 < m) }
     ensures { result ≡ adding (partner (which (bare set m n) n 0) (places_of m (set / 2 ^ (n - m)))) n ++ replicate (Limits.ROWS - n) 0 }
 {
-    let mut out = [0u32; ROWS];
+    let mut out = [0; ROWS];
     let mut left = set >> ((n - m) as u32);
-    let mut j = 0;
-    while j < n {
+    for j in 0..n {
         let w = unless_zero(bare(set, m, n, j), lowest_of(left));
         out[j] = power(j as u32) ^ w;
-        left = left ^ w;
-        j += 1;
+        left ^= w;
     }
     out
 }
 
-// Step 1 as a matrix, for a matrix of n columns.
-fn step1(cols: &[u32; ROWS], n: usize, m: usize) -> [u32; ROWS]
-    requires { (0 < m) × (m < n) × (n ≤ Limits.ROWS) }
-    ensures { result ≡ step1 n m (take n cols.now) ++ replicate (Limits.ROWS - n) 0 }
+// Step 1 as a matrix, for a matrix of these columns.
+fn step1(columns: &[u32], m: usize) -> [u32; ROWS]
+    requires { (0 < m) × (m < length columns.now) × (length columns.now ≤ Limits.ROWS) }
+    ensures { result ≡ step1 (length columns.now) m columns.now ++ replicate (Limits.ROWS - length columns.now) 0 }
 {
-    let delta = lower(cols, m, n, m);
-    let phi = lower(cols, 0, m, m);
-    let both = followed(delta, n - m, phi, m);
-    paired(marks(both, n), n, m)
+    let n = columns.len();
+    let delta = lower(&columns[m..], m);
+    let phi = lower(&columns[..m], m);
+    let both = followed(&delta[..n - m], &phi[..m]);
+    paired(marks(&both[..n]), n, m)
 }
 
-// Step 2 as a matrix, for a matrix of n columns.
-fn step2(cols: &[u32; ROWS], n: usize, m: usize) -> [u32; ROWS]
-    requires { (m < n) × (n ≤ Limits.ROWS) }
-    ensures { result ≡ step2 n m (take n cols.now) ++ replicate (Limits.ROWS - n) 0 }
+// Step 2 as a matrix, for a matrix of these columns.
+fn step2(columns: &[u32], m: usize) -> [u32; ROWS]
+    requires { (m < length columns.now) × (length columns.now ≤ Limits.ROWS) }
+    ensures { result ≡ step2 (length columns.now) m columns.now ++ replicate (Limits.ROWS - length columns.now) 0 }
 {
-    let phi = lower(cols, 0, m, m);
-    let set = marks(phi, m);
-    let e = eliminate(&phi, m);
-    let mut out = [0u32; ROWS];
-    let mut j = 0;
-    while j < n {
-        let r = reduce(e, phi[j], 0);
+    let phi = lower(&columns[..m], m);
+    let set = marks(&phi[..m]);
+    let entries = Echelon::of(&phi[..m]);
+    let mut out = [0; ROWS];
+    for j in 0..columns.len() {
+        let r = entries.reduce(phi[j], 0);
         out[j] = power(j as u32) ^ unless_zero(bare(set, 0, m, j), r.tag);
-        j += 1;
     }
     out
 }
 
-// A P and P, for the matrix A of n rows.
-pub fn operate(rows: &[u32; ROWS], n: usize, m: usize) -> Operated
-    requires { (0 < m) × (m < n) × (n ≤ Limits.ROWS) }
-    ensures { (result.cols ≡ after (columns n (take n rows.now)) (operations n m (columns n (take n rows.now)))
-        ++ replicate (Limits.ROWS - n) 0) × (result.p ≡ operations n m (columns n (take n rows.now)) ++ replicate (Limits.ROWS - n) 0) }
+// A P and P, for the matrix A of these rows, as many as columns.
+pub fn operate(rows: &[u32], m: usize) -> Operated
+    requires { (0 < m) × (m < length rows.now) × (length rows.now ≤ Limits.ROWS) }
+    ensures cols { result.cols ≡ after (columns (length rows.now) rows.now) (operations (length rows.now) m (columns (length rows.now) rows.now))
+        ++ replicate (Limits.ROWS - length rows.now) 0 }
+    ensures p { result.p ≡ operations (length rows.now) m (columns (length rows.now) rows.now) ++ replicate (Limits.ROWS - length rows.now) 0 }
 {
-    let a = columns(rows, 0, n, n);
-    let s1 = step1(&a, n, m);
-    let b = product(&s1, &a, n);
-    let s2 = step2(&b, n, m);
-    let p = product(&s2, &s1, n);
-    let cols = product(&p, &a, n);
+    let n = rows.len();
+    let a = columns(rows, n);
+    let s1 = step1(&a[..n], m);
+    let b = product(&s1[..n], &a[..n]);
+    let s2 = step2(&b[..n], m);
+    let p = product(&s2[..n], &s1[..n]);
+    let cols = product(&p[..n], &a[..n]);
     Operated { cols, p }
 }

@@ -7,7 +7,7 @@ use bank::{Geometry, PASSES, PLACES};
 
 // A plan: the geometry, whether the spent area is blanked, the number of passes, the rows of every pass in one flat array, a
 // complement for each pass.
-#[derive(Clone, Copy)]
+#[derive(Clone, Copy, Debug, PartialEq, Eq)]
 pub struct Plan {
     pub geometry: Geometry,
     pub blanks: bool,
@@ -17,7 +17,7 @@ pub struct Plan {
 }
 
 // The phases of a memoryload; the last is in plans that blank alone.
-#[derive(Clone, Copy)]
+#[derive(Clone, Copy, Debug, PartialEq, Eq)]
 pub enum Phase {
     Reads,
     Writes,

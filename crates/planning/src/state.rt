@@ -4,10 +4,7 @@ ghost use Rattle.planning.specs.State.{fresh_state, advanced_by};
 
 use bank::Step;
 
-// The largest number that a step can have.
-const LAST: u64 = 18446744073709551615;
-
-#[derive(Clone, Copy)]
+#[derive(Clone, Copy, Debug, PartialEq, Eq)]
 pub struct State {
     pub next: Step,
 }
@@ -31,12 +28,9 @@ impl State {
     pub fn advanced(mut self, k: u64) -> State
         ensures { result ≡ advanced_by self k }
     {
-        let next = self.next.0;
-        if LAST - next < k {
-            return self;
+        if let Some(next) = self.next.0.checked_add(k) {
+            self.next = Step(next);
         }
-        let step = Step(next + k);
-        self.next = step;
         self
     }
 }

@@ -1,4 +1,5 @@
 -- Which first line does a reader find? Assumes nothing.
+use Rattle.std.specs.Prelude.{Option, Some, None}
 use mathlib.Core.Path.{◌≡◌, refl, sym, ap, ◌∙◌, subst}
 use mathlib.Core.Bool.{Bool, true, false, cond}
 use mathlib.Core.List.{List, [], ◌∷◌, ◌++◌, append_assoc}
@@ -14,10 +15,6 @@ use Rattle.text.specs.Lines.{decimal}
 use Rattle.reading.specs.OrderText.{first_line}
 use Rattle.reading.specs.Reading.{Begins}
 use Rattle.reading.specs.Parsing.{number_at, ended, field_at, if_read, up_to_r, up_to_m, up_to_d, up_to_b, first_line_at}
-use Rattle.reading.specs.declared.number.Parsed.{Parsed}
-use Rattle.reading.specs.declared.number.Parsed.TheVariants.{Value, Bad}
-use Rattle.reading.specs.declared.number.FirstLine.{FirstLine}
-use Rattle.reading.specs.declared.number.FirstLine.TheVariants.{Of, Unread}
 use Rattle.reading.proofs.Numbers.{NumberAt, NumberIf, number_if, number_forth}
 
 -- ---- a field: a number and the byte that ends it
@@ -25,21 +22,21 @@ record FieldAt (s : List ℕ) (at end v k : ℕ) : Type 0 where
   pub short : v < 1000
   pub is : drop at s ≡ decimal v ++ (end ∷ drop k s)
 
-abbrev FieldIf : List ℕ → ℕ → ℕ → Parsed → Type 0
-FieldIf s at end (Value v k) = FieldAt s at end v k
-FieldIf s at end Bad = Unit {0}
+abbrev FieldIf : List ℕ → ℕ → ℕ → Option (ℕ × ℕ) → Type 0
+FieldIf s at end (Some (v, k)) = FieldAt s at end v k
+FieldIf s at end None = Unit {0}
 
 module _ (s : List ℕ) (at end : ℕ) where
   by_tests : (v j : ℕ) → NumberAt s at v j → (t u : Bool) → ltb j (length s) ≡ t → eqb (get_or s j 0) end ≡ u
-      → FieldIf s at end (cond t (cond u (Value v (j + 1)) Bad) Bad)
+      → FieldIf s at end (cond t (cond u (Some (v, j + 1)) None) None)
   by_tests v j r false u p q = tt
   by_tests v j r true false p q = tt
   by_tests v j r true true p q =
       record { short = r.short; is = r.is ∙ rw (drop-cons s j 0 (ltb-true j (length s) p), eqb-true (get_or s j 0) end q, add-one j) }
 
-  by_number : (p : Parsed) → NumberIf s at p → FieldIf s at end (ended s end p)
-  by_number Bad r = tt
-  by_number (Value v j) r = by_tests v j r (ltb j (length s)) (eqb (get_or s j 0) end) refl refl
+  by_number : (p : Option (ℕ × ℕ)) → NumberIf s at p → FieldIf s at end (ended s end p)
+  by_number None r = tt
+  by_number (Some (v, j)) r = by_tests v j r (ltb j (length s)) (eqb (get_or s j 0) end) refl refl
 
   field_if : FieldIf s at end (field_at s at end)
   unfolding field_at
@@ -48,7 +45,7 @@ module _ (s : List ℕ) (at end : ℕ) where
 -- a field read, and what is left from there on
 record FieldRead (s : List ℕ) (at end v : ℕ) (rest : List ℕ) : Type 0 where
   pub past : ℕ
-  pub read : field_at s at end ≡ Value v past
+  pub read : field_at s at end ≡ Some (v, past)
   pub left : drop past s ≡ rest
 
 field_forth : (s : List ℕ) (at end v : ℕ) (rest : List ℕ) → v < 1000 → end < 48 → drop at s ≡ decimal v ++ (end ∷ rest) → FieldRead s at end v rest
@@ -76,7 +73,7 @@ first_line_is g rest =
     append_assoc (decimal g.n ++ _) (10 ∷ []) rest
     ∙ spaced (decimal g.n) _ _ _ (spaced (decimal g.b) _ _ _ (spaced (decimal g.d) _ _ _ (spaced (decimal g.m) _ _ _ refl)))
 
-pub first_line_forth : (text : List ℕ) (g : Geometry) → Begins text g → (e : ℕ) × (first_line_at text ≡ Of g e)
+pub first_line_forth : (text : List ℕ) (g : Geometry) → Begins text g → (e : ℕ) × (first_line_at text ≡ Some (g, e))
 unfolding first_line_at
 first_line_forth text g begins =
     let e = begins.is ∙ first_line_is g begins.rest in
@@ -86,13 +83,6 @@ first_line_forth text g begins =
     let f4 = field_forth text f3.past 32 g.m _ begins.m_short (omega arith) f3.left in
     let f5 = field_forth text f4.past 10 g.r _ begins.r_short (omega arith) f4.left in
     (f5.past, simp (f1.read, f2.read, f3.read, f4.read, f5.read))
-
--- where a line is what is left to read from a field on: by that field, or none
-pub if_read_value : (l : FirstLine) (r p : Parsed) (v k : ℕ) (f : ℕ → ℕ → FirstLine) → l ≡ if_read p f → r ≡ p → r ≡ Value v k → l ≡ f v k
-if_read_value l r p v k f e is got = e ∙ ap (λ (q : Parsed). if_read q f) (sym is ∙ got)
-
-pub if_read_bad : (l : FirstLine) (r p : Parsed) (f : ℕ → ℕ → FirstLine) → l ≡ if_read p f → r ≡ p → r ≡ Bad → Unread ≡ l
-if_read_bad l r p f e is got = sym (e ∙ ap (λ (q : Parsed). if_read q f) (sym is ∙ got))
 
 -- a first line read stands there, and what is left follows it
 pub record FirstAt (text : List ℕ) (g : Geometry) (e : ℕ) : Type 0 where
@@ -110,18 +100,18 @@ five_fields text n b d m r i j k l e f1 f2 f3 f4 f5 =
       is = is;
     }
 
-abbrev FirstIf : List ℕ → FirstLine → Type 0
-FirstIf text (Of g e) = FirstAt text g e
-FirstIf text Unread = Unit {0}
+abbrev FirstIf : List ℕ → Option (Geometry × ℕ) → Type 0
+FirstIf text (Some (g, e)) = FirstAt text g e
+FirstIf text None = Unit {0}
 
 -- a line is as each field that it may go on from would have it
-by_field : (text : List ℕ) (at end : ℕ) (f : ℕ → ℕ → FirstLine) → ((v k : ℕ) → FieldAt text at end v k → FirstIf text (f v k))
+by_field : (text : List ℕ) (at end : ℕ) (f : ℕ → ℕ → Option (Geometry × ℕ)) → ((v k : ℕ) → FieldAt text at end v k → FirstIf text (f v k))
     → FirstIf text (if_read (field_at text at end) f)
 by_field text at end f some = go (field_at text at end) (field_if text at end)
   where
-    go : (p : Parsed) → FieldIf text at end p → FirstIf text (if_read p f)
-    go Bad r = tt
-    go (Value v k) r = some v k r
+    go : (p : Option (ℕ × ℕ)) → FieldIf text at end p → FirstIf text (if_read p f)
+    go None r = tt
+    go (Some (v, k)) r = some v k r
 
 first_line_if : (text : List ℕ) → FirstIf text (first_line_at text)
 unfolding first_line_at
@@ -130,12 +120,16 @@ first_line_if text =
     by_field text i 32 (up_to_d text n) (λ b j f2.
     by_field text j 32 (up_to_m text n b) (λ d k f3.
     by_field text k 32 (up_to_r text n b d) (λ m l f4.
-    by_field text l 10 (λ r e. Of (record { n = n; b = b; d = d; m = m; r = r }) e) (λ r e f5.
+    by_field text l 10 (λ r e. Some (record { n = n; b = b; d = d; m = m; r = r }, e)) (λ r e f5.
     five_fields text n b d m r i j k l e f1 f2 f3 f4 f5)))))
 
-pub first_line_back : (text : List ℕ) (g : Geometry) (e : ℕ) → first_line_at text ≡ Of g e → FirstAt text g e
+pub first_line_back : (text : List ℕ) (g : Geometry) (e : ℕ) → first_line_at text ≡ Some (g, e) → FirstAt text g e
 first_line_back text g e h = subst (FirstIf text) h (first_line_if text)
 
 -- one first line only
 pub one_first_line : (text : List ℕ) (g h : Geometry) → Begins text g → Begins text h → g ≡ h
-one_first_line text g h p q = cc ((first_line_forth text g p).1, (first_line_forth text h q).1)
+one_first_line text g h p q =
+    let a = first_line_forth text g p in
+    let b = first_line_forth text h q in
+    let e : ◌≡◌ {A = Geometry × ℕ} (g, a.0) (h, b.0) = cc (a.1, b.1) in
+    ap (λ (r : Geometry × ℕ). r.0) e

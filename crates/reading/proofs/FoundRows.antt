@@ -1,4 +1,5 @@
 -- Which rows of bits does a reader find? Assumes nothing.
+use Rattle.std.specs.Prelude.{Some, None}
 use mathlib.Core.Path.{◌≡◌, refl, sym, ap, ◌∙◌, subst}
 use mathlib.Core.List.{List, ◌∷◌, ◌++◌, append_assoc}
 use Prim.Native.Nat.{ℕ, zero, suc, ◌+◌, ◌-◌, ◌*◌, ◌/◌, ◌%◌, ◌^◌, ◌<◌, ◌≤◌}
@@ -16,15 +17,14 @@ use Rattle.text.specs.Lines.{line, bits, row_lines}
 use Rattle.text.proofs.RowLines.{length-bits, same_length, row_lines_append, row_lines_snoc}
 use Rattle.reading.specs.Parsing.{digit_of, digit_at}
 use Rattle.reading.specs.Found.{RowAt, RowsFound, NoRows}
-use Rattle.reading.specs.declared.number.Parsed.TheVariants.{Value, Bad}
 use Rattle.reading.proofs.Numbers.{digit_of_lem, digit_cons}
 
 -- ---- a row
 -- each character is the digit 0 or 1
-bits_digit : (n v i : ℕ) → i < n → digit_of (get_or (bits n v) i 0) < 2
+bits_digit : (n v i : ℕ) → i < n → (d : ℕ) × (d < 2) × (digit_of (get_or (bits n v) i 0) ≡ Some d)
 unfolding bits
 bits_digit zero v i h = absurd (omega arith)
-bits_digit (suc n) v zero h = omega (arith, digit_of_lem (v % 2) (omega arith))
+bits_digit (suc n) v zero h = (v % 2, omega arith, digit_of_lem (v % 2) (omega arith))
 bits_digit (suc n) v (suc i) h = bits_digit n (v / 2) i (omega arith)
 
 module _ (s : List ℕ) (at n v : ℕ) (rest : List ℕ) (is : drop at s ≡ line (bits n v) ++ rest) where
@@ -37,7 +37,7 @@ module _ (s : List ℕ) (at n v : ℕ) (rest : List ℕ) (is : drop at s ≡ lin
   pub row_ends : get_or s (at + n) 0 ≡ 10
   row_ends = sym (get_or-drop at s n 0) ∙ ap (λ (l : List ℕ). get_or l n 0) flat ∙ get_or_at (bits n v) 10 rest 0 n (length-bits n v)
 
-  pub row_digit : (i : ℕ) → i < n → digit_at s (at + i) < 2
+  pub row_digit : (i : ℕ) → i < n → (d : ℕ) × (d < 2) × (digit_at s (at + i) ≡ Some d)
   unfolding digit_at
   row_digit i h =
       let inside : i < length (bits n v) = omega (arith, length-bits n v) in
@@ -45,7 +45,7 @@ module _ (s : List ℕ) (at n v : ℕ) (rest : List ℕ) (is : drop at s ≡ lin
 
 -- an iteration of the loop: one character more, before those read
 pub once : (s : List ℕ) (at n i v d : ℕ) → 0 < i → i ≤ n → v < 2 ^ (n - i) → drop (at + i) s ≡ bits (n - i) v ++ drop (at + n) s
-    → d ≡ digit_at s (at + (i - 1)) → d < 2
+    → digit_at s (at + (i - 1)) ≡ Some d → d < 2
     → (v * 2 + d < 2 ^ (n - (i - 1))) × (drop (at + (i - 1)) s ≡ bits (n - (i - 1)) (v * 2 + d) ++ drop (at + n) s)
 unfolding bits
 once s at n i v d some upto low is read digit =
@@ -53,7 +53,7 @@ once s at n i v d some upto low is read digit =
     let f : at + (i - 1) + 1 ≡ at + i = omega arith in
     let p : (v * 2 + d) % 2 ≡ d = omega arith in
     let q : (v * 2 + d) / 2 ≡ v = omega arith in
-    (rw e (omega (arith, pow-suc 2 (n - i))), digit_cons s (at + (i - 1)) (omega arith) ∙ rw (f, is, e, p, q, read))
+    (rw e (omega (arith, pow-suc 2 (n - i))), digit_cons s (at + (i - 1)) d read ∙ rw (f, is, e, p, q))
 
 -- the bits read so far fit, with one more
 pub row_fits : (n i v : ℕ) → n ≤ ROWS → 0 < i → i ≤ n → v < 2 ^ (n - i) → v * 2 + 1 < 2 ^ WORD
@@ -73,8 +73,15 @@ pub no_rows_yet : (s : List ℕ) (at n : ℕ) → RowsFound s at n 0 (replicate 
 unfolding row_lines
 no_rows_yet s at n = record { room = length-replicate {A = ℕ} ROWS 0; below = λ j h. absurd (omega arith); spare = λ j h. get_or_zeros ROWS j; is = refl }
 
+-- a place of the first n rows
+pub row_place : (n i : ℕ) → n ≤ ROWS → i < length {A = ℕ} (take n (replicate ROWS 0)) → i < n
+row_place n i fits h = omega (arith, h, length-take-le {A = ℕ} n (replicate ROWS 0) fits)
+
+pub row_last : (n i : ℕ) → n ≤ ROWS → length {A = ℕ} (take n (replicate ROWS 0)) ≤ i → i ≤ length {A = ℕ} (take n (replicate ROWS 0)) → i ≡ n
+row_last n i fits g h = omega (arith, g, h, length-take-le {A = ℕ} n (replicate ROWS 0) fits)
+
 -- a row more
-pub rows_more : (s : List ℕ) (at n i : ℕ) (rows : List ℕ) (p v k : ℕ) → RowsFound s at n i rows p → i < ROWS → RowAt s p n (Value v k)
+pub rows_more : (s : List ℕ) (at n i : ℕ) (rows : List ℕ) (p v k : ℕ) → RowsFound s at n i rows p → i < ROWS → RowAt s p n (Some (v, k))
     → RowsFound s at n (i + 1) (set rows i v) k
 rows_more s at n i rows p v k so_far inside row =
     let len = so_far.room in
@@ -92,7 +99,7 @@ rows_more s at n i rows p v k so_far inside row =
     }
 
 -- no row where one must stand
-pub rows_broken : (s : List ℕ) (at n i : ℕ) (rows : List ℕ) (p : ℕ) → RowsFound s at n i rows p → i < n → n ≤ ROWS → RowAt s p n Bad → NoRows s at n
+pub rows_broken : (s : List ℕ) (at n i : ℕ) (rows : List ℕ) (p : ℕ) → RowsFound s at n i rows p → i < n → n ≤ ROWS → RowAt s p n None → NoRows s at n
 unfolding row_lines
 rows_broken s at n i rows p so_far inside fits none vs rest len e =
     let x = get_or vs i 0 in

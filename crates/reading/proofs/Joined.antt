@@ -1,8 +1,9 @@
 -- Which reading follows from a first line and a rest? Assumes nothing.
+use Rattle.std.specs.Prelude.{Some, None}
 use mathlib.Core.Path.{◌≡◌, refl, sym, ap, subst, ◌∙◌}
 use mathlib.Core.Bool.{true, false}
 use mathlib.Core.List.{List, ◌++◌}
-use Prim.Native.Nat.{ℕ, zero, suc}
+use Prim.Native.Nat.{ℕ}
 use native.Mathlib.Omega.{arith}
 use lib.ListN.{drop, take}
 use Rattle.bank.specs.Geometry.{in_limits}
@@ -17,8 +18,7 @@ use Rattle.text.specs.Lines.{line, bits, row_lines}
 use Rattle.reading.specs.OrderText.{first_line, order_text}
 use Rattle.reading.specs.Reading.{Whole, Reads, no_order, no_first_line, outside, no_rest, singular as singular-read, taken}
 use Rattle.reading.specs.Parsing.{first_line_at}
-use Rattle.reading.specs.Found.{RestFound, RestIf}
-use Rattle.reading.specs.declared.number.FirstLine.TheVariants.{Of, Unread}
+use Rattle.reading.specs.Found.{RestFound, NoRest}
 use Rattle.reading.proofs.FirstLine.{FirstAt, first_line_forth, first_line_back}
 
 -- the text of an order, from its geometry on
@@ -28,10 +28,10 @@ unfolding order_text
 text_of order g e = ap (λ (x : Geometry). first_line x ++ (row_lines x.n (matrix_of order) ++ line (bits x.n order.complement))) e
 
 module _ (text : List ℕ) where
-  pub reads_no_first_line : first_line_at text ≡ Unread → Reads text 8 no_order 0
+  pub reads_no_first_line : first_line_at text ≡ None → Reads text 8 no_order 0
   reads_no_first_line e = no_first_line (λ g b. let r = first_line_forth text g b in let y : ◌≡◌ {A = ℕ} 0 1 = cc r.1 in omega arith)
 
-  module _ (g : Geometry) (e : ℕ) (Line-read : first_line_at text ≡ Of g e) where
+  module _ (g : Geometry) (e : ℕ) (Line-read : first_line_at text ≡ Some (g, e)) where
     first : FirstAt text g e
     first = first_line_back text g e Line-read
 
@@ -43,10 +43,8 @@ module _ (text : List ℕ) where
       rest_there : (other : Order) → Whole text g other → drop e text ≡ row_lines g.n (matrix_of other) ++ line (bits g.n other.complement)
       rest_there other w = (same_parts (first_line g) (first_line g) (drop e text) _ refl (sym first.is ∙ w.is ∙ text_of other g w.geometry)).1
 
-      pub reads_no_rest : (k : ℕ) (order : Order) → (k ≡ 0 → ⊥) → RestIf k text e g order → Reads text k order 0
-      reads_no_rest zero order some r = absurd (some refl)
-      reads_no_rest (suc k) order some r =
-          rw (r.refused, r.cleared) (no_rest g first.begins inside (λ other w. r.none other w.geometry w.room (rest_there other w)))
+      pub reads_no_rest : NoRest text e g → Reads text 8 no_order 0
+      reads_no_rest none = no_rest g first.begins inside (λ other w. none other w.geometry w.room (rest_there other w))
 
       module _ (order : Order) (r : RestFound text e g order) where
         -- the rest of an order, after the first line: the whole text

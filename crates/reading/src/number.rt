@@ -1,108 +1,52 @@
-// Numbers are read at a place of a text, and the first line.
-ghost use Rattle.std.specs.Prelude.{◌≡◌};
-ghost use Rattle.reading.specs.Parsing.{digit_of, digit_at, number_at, field_at, first_line_at};
+// Numbers are read at a place of a text, and the first line. Text and place come one by one, as `field_at` and the other definitions take them.
+ghost use Rattle.std.specs.Prelude.{◌≡◌, ◌<◌, length, IfSome};
+ghost use Rattle.reading.specs.Parsing.{digit_at, number_at, field_at, first_line_at};
 
 use bank::Geometry;
 
-// A number and the place past it.
-#[derive(Clone, Copy)]
-pub(crate) enum Parsed {
-    Value(u32, usize),
-    Bad,
-}
-
-// The geometry of a first line and the place past it.
-#[derive(Clone, Copy)]
-pub(crate) enum FirstLine {
-    Of(Geometry, usize),
-    Unread,
-}
-
-// The digit that a byte is, 10 where it is none.
-fn digit(x: u8) -> u32
-    ensures { result ≡ digit_of x }
+pub(crate) fn digit_at(text: &[u8], at: usize) -> Option<u32>
+    ensures digit { result ≡ digit_at text.now at }
+    ensures within { IfSome result (λ d. (d < 10) × (at < length text.now)) }
 {
-    if x < 48 {
-        return 10;
-    }
-    if 57 < x {
-        return 10;
-    }
-    (x - 48) as u32
+    char::from(*text.get(at)?).to_digit(10)
 }
 
-pub(crate) fn digit_at(text: &[u8], at: usize) -> u32
-    ensures { result ≡ digit_at text.now at }
-{
-    if at < text.len() { digit(text[at]) } else { 10 }
-}
-
-// A number of 1 to 3 digits with no leading zero but 0 itself.
-fn number_at(text: &[u8], at: usize) -> Parsed
+// A number of 1 to 3 digits with no leading zero but 0 itself, and the place past it.
+fn number_at(text: &[u8], at: usize) -> Option<(u32, usize)>
     ensures { result ≡ number_at text.now at }
 {
-    let a = digit_at(text, at);
-    if 10 <= a {
-        return Parsed::Bad;
-    }
-    let i = at + 1;
+    let a = digit_at(text, at)?;
     if a == 0 {
-        return Parsed::Value(0, i);
+        return Some((0, at + 1));
     }
-    let b = digit_at(text, i);
-    if 10 <= b {
-        return Parsed::Value(a, i);
-    }
-    let j = at + 2;
-    let c = digit_at(text, j);
-    if 10 <= c {
-        return Parsed::Value(a * 10 + b, j);
-    }
-    Parsed::Value(a * 100 + b * 10 + c, at + 3)
+    let Some(b) = digit_at(text, at + 1) else {
+        return Some((a, at + 1));
+    };
+    let Some(c) = digit_at(text, at + 2) else {
+        return Some((a * 10 + b, at + 2));
+    };
+    Some((a * 100 + b * 10 + c, at + 3))
 }
 
-// A number and the byte that ends it.
-fn field(text: &[u8], at: usize, end: u8) -> Parsed
+// A number and the byte that ends it, and the place past that.
+fn field(text: &[u8], at: usize, end: u8) -> Option<(u32, usize)>
     ensures { result ≡ field_at text.now at end }
 {
-    let Parsed::Value(v, k) = number_at(text, at) else {
-        return Parsed::Bad;
-    };
-    if k < text.len() {
-        if text[k] == end {
-            return Parsed::Value(v, k + 1);
-        }
+    let (v, k) = number_at(text, at)?;
+    if k < text.len() && text[k] == end {
+        return Some((v, k + 1));
     }
-    Parsed::Bad
+    None
 }
 
-// n b d m R, one space between, and LF.
-pub(crate) fn first_line(text: &[u8]) -> FirstLine
+// n b d m R, one space between, and LF; and the place past it.
+pub(crate) fn first_line(text: &[u8]) -> Option<(Geometry, usize)>
     ensures { result ≡ first_line_at text.now }
 {
-    let Parsed::Value(n, i) = field(text, 0, 32) else {
-        return FirstLine::Unread;
-    };
-    let Parsed::Value(b, j) = field(text, i, 32) else {
-        return FirstLine::Unread;
-    };
-    let Parsed::Value(d, k) = field(text, j, 32) else {
-        return FirstLine::Unread;
-    };
-    let Parsed::Value(m, l) = field(text, k, 32) else {
-        return FirstLine::Unread;
-    };
-    let Parsed::Value(r, e) = field(text, l, 10) else {
-        return FirstLine::Unread;
-    };
-    FirstLine::Of(
-        Geometry {
-            n: n,
-            b: b,
-            d: d,
-            m: m,
-            r: r,
-        },
-        e,
-    )
+    let (n, i) = field(text, 0, b' ')?;
+    let (b, j) = field(text, i, b' ')?;
+    let (d, k) = field(text, j, b' ')?;
+    let (m, l) = field(text, k, b' ')?;
+    let (r, e) = field(text, l, b'\n')?;
+    Some((Geometry { n, b, d, m, r }, e))
 }

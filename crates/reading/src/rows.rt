@@ -1,71 +1,44 @@
-// Rows of bits are read at a place of a text.
+// Rows of bits are read at a place of a text. Their number n is a geometry's, of which `in_limits` was asked, so its limit stands in each clause.
 ghost use Rattle.std.specs.Prelude.{◌≤◌};
 ghost use Rattle.bank.specs.Limits;
 ghost use Rattle.reading.specs.Found.{RowAt, RowsAt};
 
-use crate::number::{Parsed, digit_at};
+use crate::number::digit_at;
 use bank::ROWS;
 
-// Rows, and the place past their lines, where they are good.
-#[derive(Clone, Copy)]
-pub(crate) struct Rows {
-    pub good: bool,
-    pub rows: [u32; ROWS],
-    pub end: usize,
-}
-
 // A line of n characters 0 or 1, bit 0 first, and the place past it.
-pub(crate) fn row_at(text: &[u8], at: usize, n: usize) -> Parsed
+pub(crate) fn row_at(text: &[u8], at: usize, n: usize) -> Option<(u32, usize)>
     requires { n ≤ Limits.ROWS }
     ensures { RowAt text.now at n result }
 {
     let len = text.len();
-    if len <= at {
-        return Parsed::Bad;
-    }
-    if len - at <= n {
-        return Parsed::Bad;
+    if len <= at || len - at <= n {
+        return None;
     }
     let end = at + n;
-    if text[end] != 10 {
-        return Parsed::Bad;
+    if text[end] != b'\n' {
+        return None;
     }
-    let mut v = 0u32;
-    let mut i = n;
-    while 0 < i {
-        let d = digit_at(text, at + i - 1);
+    let mut v = 0;
+    for i in (0..n).rev() {
+        let d = digit_at(text, at + i)?;
         if 1 < d {
-            return Parsed::Bad;
+            return None;
         }
         v = v * 2 + d;
-        i -= 1;
     }
-    Parsed::Value(v, end + 1)
+    Some((v, end + 1))
 }
 
-// n lines of n characters.
-pub(crate) fn rows_at(text: &[u8], at: usize, n: usize) -> Rows
+// n lines of n characters: the rows, with 0 in the places beyond them, and the place past the lines.
+pub(crate) fn rows_at(text: &[u8], at: usize, n: usize) -> Option<([u32; ROWS], usize)>
     requires { n ≤ Limits.ROWS }
     ensures { RowsAt text.now at n result }
 {
-    let mut list = [0u32; ROWS];
+    let mut rows = [0; ROWS];
     let mut p = at;
-    let mut i = 0;
-    while i < n {
-        let Parsed::Value(v, k) = row_at(text, p, n) else {
-            return Rows {
-                good: false,
-                rows: list,
-                end: p,
-            };
-        };
-        list[i] = v;
-        p = k;
-        i += 1;
+    for row in &mut rows[..n] {
+        (*row, p) = row_at(text, p, n)?;
     }
-    Rows {
-        good: true,
-        rows: list,
-        end: p,
-    }
+    Some((rows, p))
 }

@@ -1,21 +1,21 @@
 -- Which columns of E has a loop made so far, and what does the elimination of δ give for the next? Assumes nothing.
 use mathlib.Core.Path.{◌∙◌, ◌≡◌, ap, ap₂, refl, sym}
 use mathlib.Core.Bool.{Bool, cond}
-use mathlib.Core.List.{List, ◌++◌}
+use mathlib.Core.List.{List, ◌++◌, map}
 use mathlib.Core.Logic.{⊎_elim}
 use Prim.Native.Nat.{◌%◌, ◌*◌, ◌+◌, ◌-◌, ◌/◌, ◌<◌, ◌^◌, ◌≤◌, suc, zero, ℕ}
 use native.Mathlib.Nat.{lt_of_lt_of_le, mod-eq_of_lt, zero-mul}
 use native.Mathlib.Omega.{arith}
 use lib.Bits.{bit_xor, xor_zero_l, xor_zero_r}
 use lib.Pow.{pow_mono}
+use lib.Seq.{take_all}
 use lib.Dec.{ltb}
-use lib.ListN.{get_or-append, drop, get_or, length, length-drop, length-map, set, take}
+use lib.ListN.{drop, get_or, length, length-drop, length-map, set, take}
 use borrow.Author.Tests.{le-ltb, lt-ltb}
 use Rattle.algebra.specs.Elimination.{Echelon, built, used}
 use Rattle.algebra.specs.Matrix.{identity}
 use Rattle.algebra.specs.Vector.{WORD, bit, comb, unless_zero}
 use Rattle.algebra.proofs.Basis.{rest_linear}
-use Rattle.algebra.proofs.Built.{built_same}
 use Rattle.algebra.proofs.Digits.{bit-zero, shr_below}
 use Rattle.algebra.proofs.Linear.{comb_one, listed_units}
 use Rattle.algebra.proofs.Listed.{listed_same, room_set}
@@ -25,7 +25,7 @@ use Rattle.planning.specs.Making.{eraser, erases}
 use Rattle.planning.proofs.Bridges.{eraser-used, used_in}
 use Rattle.planning.proofs.Parts.{delta-comb, zero_there}
 use Rattle.planning.proofs.Round.{e_high, e_low, e_small, eraser-zero}
-use Rattle.rounds.proofs.Places.{phi_column, phi-take}
+use Rattle.rounds.proofs.Products.{take_front}
 use Rattle.planning.specs.Inner.{RoundReady}
 
 -- ---- what an elimination uses for zero: nothing
@@ -96,19 +96,23 @@ module _ (room n b m : ℕ) (small : room ≤ WORD) (hm : m ≤ n) (hn : n ≤ r
   unfolding delta
   delta-length = length-map (drop m cols) (λ v. v / 2 ^ m) ∙ length-drop m cols ∙ ap (λ (k : ℕ). k - m) sound.long
 
-  -- .. by the entries of an array that holds δ
-  pub column_erased : (j : ℕ) → b ≤ j → j < m → (array r : List ℕ) → array ≡ delta m cols ++ r → (e : Echelon) → e ≡ built room array (n - m)
+  -- .. the entries of an array that holds δ
+  pub delta_built : (array r : List ℕ) (e : Echelon) → array ≡ map (λ v. v / 2 ^ m) (take (n - m) (drop m cols)) ++ r
+      → e ≡ built room (take (n - m) array) (length (take (n - m) array)) → e ≡ built room (delta m cols) (n - m)
+  unfolding delta
+  delta_built array r e ea ee =
+      let few : length (drop m cols) ≤ n - m = omega (arith, length-drop m cols, sound.long) in
+      let front : take (n - m) array ≡ delta m cols
+      = take_front (n - m) array (delta m cols) r delta-length
+      (ea ∙ ap (λ (l : List ℕ). map (λ v. v / 2 ^ m) l ++ r) (take_all (n - m) (drop m cols) few)) in
+      ee ∙ ap (λ (l : List ℕ). built room l (length l)) front ∙ ap (built room (delta m cols)) delta-length
+
+  -- .. by the entries of δ
+  pub column_erased : (j : ℕ) → b ≤ j → j < m → (e : Echelon) → e ≡ built room (delta m cols) (n - m)
       → (power v tag : ℕ) → power ≡ 2 ^ j → v ≡ get_or (phi m cols) j 0 → tag ≡ bit_xor 0 (used_in e v)
       → bit_xor power (tag * 2 ^ m % 2 ^ WORD) ≡ bit_xor (2 ^ j) (eraser n b m cols j)
-  column_erased j hb hj array r ea e ee power v tag ep ev et =
-      let same : e ≡ built room (delta m cols) (n - m)
-      = ee ∙ built_same room array (delta m cols) (n - m)
-      (λ i h. ap (λ (l : List ℕ). get_or l i 0) ea ∙ get_or-append (delta m cols) r 0 i (omega (arith, delta-length))) in
+  column_erased j hb hj e ee power v tag ep ev et =
       let is : tag * 2 ^ m ≡ eraser n b m cols j
-      = ap (λ (k : ℕ). k * 2 ^ m) (et ∙ xor_zero_l (used_in e v) ∙ ap (used_in e) ev) ∙ sym (eraser_tag j hb hj e same) in
+      = ap (λ (k : ℕ). k * 2 ^ m) (et ∙ xor_zero_l (used_in e v) ∙ ap (used_in e) ev) ∙ sym (eraser_tag j hb hj e ee) in
       let fits : n ≤ WORD = omega arith in
       ap₂ (λ (x y : ℕ). bit_xor x (y % 2 ^ WORD)) ep is ∙ ap (bit_xor (2 ^ j)) (mod-eq_of_lt (lt_of_lt_of_le (e_small n b m hm cols j) (pow_mono fits)))
-
--- ---- δ and φ, of the first n columns of an array
-pub phi_there : (m n j : ℕ) (cols : List ℕ) → m ≤ n → j < m → get_or cols j 0 / 2 ^ m ≡ get_or (phi m (take n cols)) j 0
-phi_there m n j cols h l = phi_column m cols j l ∙ ap (λ (f : List ℕ). get_or f j 0) (sym (phi-take m n cols h))

@@ -1,22 +1,21 @@
 -- Which columns has a walk over the columns exchanged so far? Assumes nothing.
 use mathlib.Core.Path.{◌∙◌, ◌≡◌, ap, ap₂, refl, subst, sym}
-use mathlib.Core.Bool.{Bool, false, not, true, cond}
+use mathlib.Core.Bool.{Bool, false, true, cond}
 use mathlib.Core.List.{List, [], ◌++◌, ◌∷◌, append-nil}
 use Prim.Native.Nat.{◌+◌, ◌-◌, ◌<◌, ◌^◌, ◌≤◌, suc, ℕ}
 use native.Mathlib.Nat.{le_refl, zero-add}
 use native.Mathlib.Numerals.{add-one}
 use native.Mathlib.Omega.{arith}
 use lib.Dec.{eqb}
-use lib.ListN.{length, length-append, replicate, set, take}
+use lib.ListN.{length, length-append, replicate, set}
 use borrow.Author.Tests.{eq-eqb, ne_eqb}
 use Rattle.algebra.specs.Matrix.{identity}
 use Rattle.algebra.specs.Search.{listed, which}
 use Rattle.algebra.proofs.Linear.{listed_units}
 use Rattle.algebra.proofs.Listed.{listed_same, one_place, room_set, which-append, which_from, which_none, which_snoc, which_upto}
 use Rattle.algebra.proofs.Lists.{off_above, off_below}
-use Rattle.planning.specs.Columns.{phi, placing, zero_column}
-use Rattle.planning.specs.Making.{came_from, swaps}
-use Rattle.rounds.proofs.Places.{phi-take}
+use Rattle.planning.specs.Columns.{placing}
+use Rattle.planning.specs.Making.{came_from}
 use Rattle.planning.proofs.Acts.{came_from_snoc}
 
 -- ---- a list that is longer than the other counts no further
@@ -157,10 +156,3 @@ module _ (p q : ℕ → Bool) (b : ℕ) where
 
     pub exchanged_all : (m x y : ℕ) (s : List ℕ) → x ≡ b → b ≤ y → y ≤ m → Exchanged x y s → s ≡ placing (came b m) n ++ replicate room 0
     exchanged_all m x y s hx hy hm i = all_placed m x y s (λ j. firsts_out m x y j hx hy hm i.even) i
-
--- S, of a matrix of n columns
-pub swaps_are : (n b m : ℕ) (cols : List ℕ) → m ≤ n
-    → placing (came_from (which (λ j. not (zero_column (phi m cols) j)) b 0) (which (zero_column (phi m cols)) (m - b) b)) n ≡ swaps n b m (take n cols)
-unfolding swaps
-swaps_are n b m cols h =
-    sym (ap (λ (l : List ℕ). placing (came_from (which (λ j. not (zero_column l j)) b 0) (which (zero_column l) (m - b) b)) n) (phi-take m n cols h))

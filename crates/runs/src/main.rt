@@ -3,6 +3,8 @@
 #![tactic(auto)]
 
 mod say; // say.rt: a line of output
+mod labels; // labels.rt: bytes that are labelled by where they begin
+mod moment; // moment.rt: the buffers that are lent, and the state
 mod steps; // steps.rt: steps and runs on lent bytes
 mod still; // still.rt: an order that leaves every record where it is
 mod blanks; // blanks.rt: plans that blank the spent area

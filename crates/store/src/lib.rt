@@ -9,12 +9,10 @@ ghost use Rattle.store.specs.Store.{with_pass};
 use bank::{Geometry, PASSES, PLACES, ROWS};
 use planning::Plan;
 
-// Zero everywhere, and nothing to blank.
+// Zero everywhere, and nothing to blank. The rules bind a plan's form: one flat array of rows and an array of complements.
 pub fn empty_plan() -> Plan
     ensures { result ≡ empty_plan }
 {
-    let rows = [0u32; PLACES];
-    let complements = [0u32; PASSES];
     Plan {
         geometry: Geometry {
             n: 0,
@@ -25,8 +23,8 @@ pub fn empty_plan() -> Plan
         },
         blanks: false,
         count: 0,
-        rows: rows,
-        complements: complements,
+        rows: [0; PLACES],
+        complements: [0; PASSES],
     }
 }
 
@@ -34,10 +32,11 @@ pub fn empty_plan() -> Plan
 pub fn no_passes(g: Geometry, blanks: bool) -> Plan
     ensures { result ≡ plan_of (record { geometry = g; blanks = blanks; passes = [] }) }
 {
-    let mut plan = empty_plan();
-    plan.geometry = g;
-    plan.blanks = blanks;
-    plan
+    Plan {
+        geometry: g,
+        blanks,
+        ..empty_plan()
+    }
 }
 
 // The rows of pass p, in the room that they have.
@@ -45,30 +44,18 @@ pub fn pass_rows(rows: &[u32; PLACES], p: usize) -> [u32; ROWS]
     requires { p < Limits.PASSES }
     ensures { result ≡ take Limits.ROWS (drop (p * Limits.ROWS) rows.now) }
 {
-    let base = p * ROWS;
-    let all = &rows[..];
-    let mut out = [0u32; ROWS];
-    let mut i = 0;
-    while i < ROWS {
-        out[i] = all[base + i];
-        i += 1;
-    }
+    let mut out = [0; ROWS];
+    out.copy_from_slice(&rows[p * ROWS..(p + 1) * ROWS]);
     out
 }
 
 // The plan with pass p, the last so far.
-pub fn with_pass(plan: Plan, p: usize, rows: [u32; ROWS], complement: u32) -> Plan
+pub fn with_pass(mut plan: Plan, p: usize, rows: [u32; ROWS], complement: u32) -> Plan
     requires { p < Limits.PASSES }
     ensures { result ≡ with_pass plan p rows complement }
 {
-    let mut out = plan;
-    let base = p * ROWS;
-    let mut i = 0;
-    while i < ROWS {
-        out.rows[base + i] = rows[i];
-        i += 1;
-    }
-    out.complements[p] = complement;
-    out.count = p as u32 + 1;
-    out
+    plan.rows[p * ROWS..(p + 1) * ROWS].copy_from_slice(&rows);
+    plan.complements[p] = complement;
+    plan.count = p as u32 + 1;
+    plan
 }

@@ -1,7 +1,8 @@
 // Bytes that come in: a buffer filled from a reader or from a word of the call, and the file that such a word names.
 #![tactic(auto)]
 
-ghost use Rattle.std.specs.Prelude.{◌≤◌, length, take};
+ghost use Rattle.std.specs.Prelude.{◌≤◌, length, take, OnOk};
+ghost use Rattle.std.specs.Str.{IsUtf8};
 ghost use Rattle.std.specs.Io.KnownBytes.{Consumes};
 
 use std::env::FillError;
@@ -26,6 +27,7 @@ pub fn fill<R: Read>(reader: &mut R, buf: &mut [u8]) -> usize
     ensures bytes { Consumes (R.remaining reader.old) (R.remaining reader.new) (take result buf.new) }
 {
     let mut done = 0;
+    // It goes on by what a read gives, so no range gives it.
     while done < buf.len() {
         let came = read_some(reader, &mut buf[done..]);
         if came == 0 {
@@ -38,23 +40,23 @@ pub fn fill<R: Read>(reader: &mut R, buf: &mut [u8]) -> usize
 
 // How many words the call has, the program's name among them.
 pub fn word_count<R: Env>(rt: &R) -> usize {
-    for i in 0..usize::MAX {
-        if let Err(FillError::NotPresent) = rt.arg(i, &mut []) {
-            return i;
-        }
-    }
-    usize::MAX
+    (0..usize::MAX)
+        .position(|i| matches!(rt.arg(i, &mut []), Err(FillError::NotPresent)))
+        .unwrap_or(usize::MAX)
 }
 
-// A word of the call, at the front of the buffer: its length, or 0 where it is missing or longer than the buffer.
-pub fn word<R: Env>(rt: &R, which: usize, buf: &mut [u8]) -> usize
-    ensures { result ≤ length buf.new }
+// A word of the call, read into the front of the buffer: no byte where it is missing or longer than the buffer.
+pub fn word<'a, R: Env>(rt: &R, which: usize, buf: &'a mut [u8]) -> &'a [u8]
+    ensures { length result.now ≤ length buf.old }
 {
-    rt.arg(which, buf).unwrap_or(0)
+    let length = rt.arg(which, buf).unwrap_or(0);
+    &buf[..length]
 }
 
 // The file of that name. A name that is no text is no file's.
-pub fn open<R: Files>(rt: &R, name: &[u8]) -> io::Result<R::File> {
+pub fn open<R: Files>(rt: &R, name: &[u8]) -> io::Result<R::File>
+    ensures { OnOk result (IsUtf8 name.now) }
+{
     let Ok(path) = str::from_utf8(name) else {
         return Err(Error::new(ErrorKind::InvalidInput, "file name isn't text"));
     };

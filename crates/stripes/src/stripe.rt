@@ -1,4 +1,4 @@
-// A stripe: a block on each drive, side by side, read into memory or blanked.
+// A stripe: a block on each drive, side by side, read into memory or blanked. Geometry, load and tier come one by one, as `stripe_of` takes them.
 ghost use Rattle.std.specs.Prelude.{◌≡◌, true, ◌+◌, ◌*◌, ◌≤◌, ◌<◌, length};
 ghost use Rattle.bank.specs.Geometry.{in_limits, loads, tiers};
 ghost use Rattle.moving.specs.Bytes.{copied, zeroed};
@@ -9,55 +9,52 @@ ghost use Rattle.stripes.specs.Stripe.{ReadReady, stripe_of};
 use bank::{Block, Geometry, power};
 use copying::{clear_part, copy_part};
 
-// Where a load's tier lies: its first block in the area and in memory, the bytes of a block, and the drives.
+// Where a load's tier lies: its first block in the area and in memory, the bytes of a block, and the number of drives.
 #[derive(Clone, Copy)]
 struct Stripe {
     first: Block,
     place: Block,
     size: usize,
-    drives: usize,
+    drives: u64,
 }
 
-// The stripe of a load's tier.
-fn stripe_of(g: Geometry, load: u64, tier: u64) -> Stripe
-    requires { (in_limits g ≡ true) × (load < loads g) × (tier < tiers g) }
-    ensures { result ≡ stripe_of g load tier }
+// Block `from` of src, of size bytes, becomes block `to` of dst.
+fn lay_block(dst: &mut [u8], to: Block, src: &[u8], from: Block, size: usize)
+    requires { (to.0 * size + size ≤ length dst.old) × (from.0 * size + size ≤ length src.now) }
+    ensures { dst.new ≡ laid dst.old (to.0 * size) size src.now (from.0 * size) }
 {
-    let drives = power(g.d);
-    let size = power(g.b) * g.r as u64;
-    let place = tier * drives;
-    let blocks = power(g.m - g.b);
-    Stripe {
-        first: Block(load * blocks + place),
-        place: Block(place),
-        size: size as usize,
-        drives: drives as usize,
-    }
-}
-
-// The block of size bytes of src goes to dst's index at.
-fn lay_block(dst: &mut [u8], at: usize, src: &[u8], block: Block, size: usize)
-    requires { (at + size ≤ length dst.old) × (block.0 * size + size ≤ length src.now) }
-    ensures { dst.new ≡ laid dst.old at size src.now (block.0 * size) }
-{
-    let o = block.0 as usize * size;
+    let o = from.0 as usize * size;
     let e = o + size;
-    copy_part(dst, at, &src[o..e]);
+    copy_part(dst, to.0 as usize * size, &src[o..e]);
 }
 
-// A block for each drive, from the first on: they lie side by side in src and in dst, be it area or memory.
-fn lay_drives(dst: &mut [u8], at: usize, src: &[u8], first: Block, size: usize, drives: usize)
-    requires { (at + drives * size ≤ length dst.old) × (first.0 * size + drives * size ≤ length src.now) × (0 < size) }
-    ensures { dst.new ≡ laid dst.old at (drives * size) src.now (first.0 * size) }
-{
-    let mut q = 0;
-    let mut done = 0;
-    while q < drives {
-        let p = at + done;
-        let block = Block(first.0 + q as u64);
-        lay_block(dst, p, src, block, size);
-        done += size;
-        q += 1;
+impl Stripe {
+    // The stripe of a load's tier.
+    #[tactic(auto, using(bank::proofs::Limits::limits))]
+    fn of(g: Geometry, load: u64, tier: u64) -> Stripe
+        requires { (in_limits g ≡ true) × (load < loads g) × (tier < tiers g) }
+        ensures { result ≡ stripe_of g load tier }
+    {
+        let drives = power(g.d);
+        let size = power(g.b) * u64::from(g.r);
+        let place = tier * drives;
+        let blocks = power(g.m - g.b);
+        Stripe {
+            first: Block(load * blocks + place),
+            place: Block(place),
+            size: size as usize,
+            drives,
+        }
+    }
+
+    // A block for each drive, from `from` on in src and from `to` on in dst: they lie side by side in both, be it area or memory.
+    fn lay(self, dst: &mut [u8], to: Block, src: &[u8], from: Block)
+        requires { (to.0 * self.size + self.drives * self.size ≤ length dst.old) × (from.0 * self.size + self.drives * self.size ≤ length src.now) × (0 < self.size) }
+        ensures { dst.new ≡ laid dst.old (to.0 * self.size) (self.drives * self.size) src.now (from.0 * self.size) }
+    {
+        for q in 0..self.drives {
+            lay_block(dst, Block(to.0 + q), src, Block(from.0 + q), self.size);
+        }
     }
 }
 
@@ -66,9 +63,8 @@ pub fn read_step(memory: &mut [u8], area: &[u8], g: Geometry, load: u64, tier: u
     requires { ReadReady g load tier area.now memory.old }
     ensures { memory.new ≡ copied (read_takes g tier) (read_from g load) g.r area.now memory.old }
 {
-    let s = stripe_of(g, load, tier);
-    let at = s.place.0 as usize * s.size;
-    lay_drives(memory, at, area, s.first, s.size, s.drives);
+    let s = Stripe::of(g, load, tier);
+    s.lay(memory, s.place, area, s.first);
 }
 
 // The blank of a load's tier: its places in memory are filled with zero, and from there, on each drive, one block of the area.
@@ -78,9 +74,8 @@ pub fn blank_step(area: &mut [u8], memory: &mut [u8], g: Geometry, load: u64, ti
     ensures { (area.new ≡ zeroed (blank_takes g load tier) g.r area.old)
         × (memory.new ≡ zeroed (read_takes g tier) g.r memory.old) }
 {
-    let s = stripe_of(g, load, tier);
+    let s = Stripe::of(g, load, tier);
     let at = s.place.0 as usize * s.size;
-    let o = s.first.0 as usize * s.size;
-    clear_part(memory, at, s.drives * s.size);
-    lay_drives(area, o, memory, s.place, s.size, s.drives);
+    clear_part(memory, at, s.drives as usize * s.size);
+    s.lay(area, s.first, memory, s.place);
 }

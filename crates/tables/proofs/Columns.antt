@@ -6,7 +6,7 @@ use Prim.Native.Nat.{ℕ, ◌+◌, ◌-◌, ◌/◌, ◌≤◌, ◌^◌}
 use native.Mathlib.Nat.{zero-add}
 use native.Mathlib.Omega.{arith}
 use lib.ListN.{length, take, drop, length-map, replicate, length-append}
-use lib.Seq.{take_at, take-take}
+use lib.Seq.{length-take-le, take_at, take-take}
 use Rattle.algebra.proofs.Columns.{columns-length, part_units, unit_vectors-length}
 use Rattle.algebra.proofs.Lists.{part_map}
 use Rattle.algebra.specs.Matrix.{applied, columns, inverse, singular}
@@ -44,20 +44,27 @@ module _ {g : Geometry} {rows : List ℕ} {c : ℕ} (k : TablesReady g rows c) w
   low_long : length (low_columns g pass) ≡ g.m
   low_long = columns-length g.m (inverse g.m (take g.m pass.rows))
 
+  -- the first m of the places of an array
+  pub low_part : (l : List ℕ) → length l ≡ ROWS → length (take g.m l) ≡ g.m
+  low_part l e = length-take-le g.m l (omega (arith, ok.memory_below, ok.n_high))
+
   -- from the two arrays that code makes
-  pub tables_made : {pace : Pace} {p : ℕ} {columns' blocks' : List ℕ}
-      → columns' ≡ columns g.m (inverse g.m (take g.m rows)) ++ zeros
-      → blocks' ≡ map (λ v. applied (take g.n rows) v / 2 ^ g.b) (take g.m columns') ++ zeros
+  pub tables_made : {pace : Pace} {p m m' : ℕ} {columns' blocks' : List ℕ} → m ≡ g.m → m' ≡ g.m
+      → columns' ≡ columns m (inverse m (take g.m rows)) ++ replicate (ROWS - m) 0
+      → blocks' ≡ map (λ v. applied (take g.n rows) v / 2 ^ g.b) (take g.m columns') ++ replicate (ROWS - m') 0
       → ◌≡◌ {A = Tables} (record { geometry = g; pace = pace; pass = p; rows = rows; complement = c; columns = columns'; blocks = blocks' })
       (tables_for g pace p rows c)
   unfolding tables_for
-  tables_made {pace} {p} {columns'} {blocks'} ec eb =
+  tables_made {pace} {p} {m} {m'} {columns'} {blocks'} em em' ec eb =
       ap₂ (λ (x y : List ℕ). record { geometry = g; pace = pace; pass = p; rows = rows; complement = c; columns = x; blocks = y }) same
-      (eb ∙ ap (λ (l : List ℕ). map (λ v. applied (take g.n rows) v / 2 ^ g.b) l ++ zeros)
-      (ap (take g.m) same ∙ take_at (low_columns g pass) zeros g.m low_long))
+      (eb ∙ ap₂ (λ (l z : List ℕ). map (λ v. applied (take g.n rows) v / 2 ^ g.b) l ++ z)
+      (ap (take g.m) same ∙ take_at (low_columns g pass) zeros g.m low_long) (rest em'))
     where
+      rest : {i : ℕ} → i ≡ g.m → replicate {A = ℕ} (ROWS - i) 0 ≡ zeros
+      rest e = ap (λ (i : ℕ). replicate (ROWS - i) 0) e
+
       same : columns' ≡ low_columns g pass ++ zeros
-      same = ec ∙ ap (λ (l : List ℕ). columns g.m (inverse g.m l) ++ zeros) (sym low_same)
+      same = ec ∙ ap₂ (λ (i : ℕ) (l : List ℕ). columns i (inverse i l) ++ replicate (ROWS - i) 0) em (sym low_same)
 
   pub tables_prepared : {pace : Pace} → Paced g pace → (p : ℕ) → Prepared (tables_for g pace p rows c)
   unfolding tables_for
@@ -84,10 +91,6 @@ module _ {t : Tables} (k : Prepared t) where
 
   pub all-columns : take geo.m t.columns ≡ columns geo.m low
   all-columns = ap (take geo.m) k.columns_are ∙ take_at (columns geo.m low) nothing geo.m long
-
-  -- there is room for m columns
-  pub columns_room : geo.m ≤ length t.columns
-  columns_room = omega (arith, ap length k.columns_are, length-append (columns geo.m low) nothing, long)
 
   pub blocks_room : geo.m ≤ length t.blocks
   blocks_room =
@@ -117,3 +120,7 @@ module _ {t : Tables} (k : Prepared t) where
     part_blocks =
         same_part k.blocks_are ∙ part_map blocked o d (columns geo.m low) nothing (omega (arith, long))
         ∙ ap (map blocked) (ap (λ (l : List ℕ). take d (drop o l)) (sym (append-nil (columns geo.m low))) ∙ part_low [])
+
+  -- of the first d
+  pub front_columns : (d : ℕ) → d ≤ geo.m → take d t.columns ≡ map (applied low) (unit_vectors d 0)
+  front_columns d h = ap (λ (k : ℕ). take k t.columns) (omega arith) ∙ part_columns 0 d d (omega arith) h

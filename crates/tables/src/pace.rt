@@ -10,7 +10,7 @@ use planning::{Phase, Plan};
 use totals::phases;
 
 // How a plan's step numbers are taken apart: the steps of a phase, of a memoryload, of a pass.
-#[derive(Clone, Copy)]
+#[derive(Clone, Copy, Debug, PartialEq, Eq)]
 pub struct Pace {
     pub phase: u64,
     pub load: u64,
@@ -18,26 +18,43 @@ pub struct Pace {
 }
 
 // Where in its pass a step stands: its memoryload, its phase there, and which tier of its load.
-#[derive(Clone, Copy)]
+#[derive(Clone, Copy, Debug, PartialEq, Eq)]
 pub struct Standing {
     pub load: u64,
     pub phase: Phase,
     pub tier: u64,
 }
 
-// The pace of a plan's steps.
-pub fn pace_of(plan: Plan) -> Pace
-    requires { in_limits plan.geometry ≡ true }
-    ensures { result ≡ pace_of (route_of plan) }
-{
-    let g = plan.geometry;
-    let kinds = phases(plan);
-    let stripe = power(g.b) * power(g.d);
-    let each = power(g.m) / stripe;
-    Pace {
-        phase: each,
-        load: kinds * each,
-        pass: kinds * power(g.n) / stripe,
+impl Pace {
+    // The pace of a plan's steps.
+    #[tactic(auto, using(bank::proofs::Limits::limits))]
+    pub fn of(plan: Plan) -> Pace
+        requires { in_limits plan.geometry ≡ true }
+        ensures { result ≡ pace_of (route_of plan) }
+    {
+        let g = plan.geometry;
+        let kinds = phases(plan);
+        let stripe = power(g.b) * power(g.d);
+        let each = power(g.m) / stripe;
+        Pace {
+            phase: each,
+            load: kinds * each,
+            pass: kinds * power(g.n) / stripe,
+        }
+    }
+
+    // Where in its pass a step stands, at this pace.
+    pub fn standing(self, s: Step) -> Standing
+        requires { (0 < self.phase) × (0 < self.load) × (0 < self.pass) }
+        ensures { result ≡ standing_at self s.0 }
+    {
+        let rest = s.0 % self.pass;
+        let left = rest % self.load;
+        Standing {
+            load: rest / self.load,
+            phase: phase_at(left / self.phase),
+            tier: left % self.phase,
+        }
     }
 }
 
@@ -46,30 +63,17 @@ pub fn pass_of(plan: Plan, s: Step) -> u64
     requires { in_limits plan.geometry ≡ true }
     ensures { result ≡ pass_of (route_of plan) s.0 }
 {
-    let pace = pace_of(plan);
-    s.0 / pace.pass
+    s.0 / Pace::of(plan).pass
 }
 
 // The phase at place k of a memoryload's.
+#[tactic(auto, unfolding(crate::specs::Pace::phase_at))]
 fn phase_at(k: u64) -> Phase
     ensures { result ≡ phase_at k }
 {
-    if k == 0 {
-        return Phase::Reads;
-    }
-    if k == 1 { Phase::Writes } else { Phase::Blanks }
-}
-
-// Where in its pass a step stands, at a pace.
-pub fn standing_of(pace: Pace, s: Step) -> Standing
-    requires { (0 < pace.phase) × (0 < pace.load) × (0 < pace.pass) }
-    ensures { result ≡ standing_at pace s.0 }
-{
-    let rest = s.0 % pace.pass;
-    let left = rest % pace.load;
-    Standing {
-        load: rest / pace.load,
-        phase: phase_at(left / pace.phase),
-        tier: left % pace.phase,
+    match k {
+        0 => Phase::Reads,
+        1 => Phase::Writes,
+        _ => Phase::Blanks,
     }
 }

@@ -1,7 +1,7 @@
 // Asks about lists of targets, right and wrong, and writes what the call answers, a line for each; the file stdout has what they must be.
 #![tactic(auto)]
 
-mod say; // say.rt: a line for an answer, and one for a count
+mod say; // say.rt: a line for an answer, and one for numbers
 mod small; // small.rt: lists of four and of sixteen entries
 mod long; // long.rt: lists of 65,536 entries
 mod texts; // texts.rt: list texts, right and wrong
@@ -18,7 +18,5 @@ fn main(rt: HostRuntime) -> io::Result<()> {
     small::every_four(&rt)?;
     long::random(&rt)?;
     texts::right(&rt)?;
-    texts::wrong_numbers(&rt)?;
-    texts::wrong_lines(&rt)?;
-    texts::wrong_bytes(&rt)
+    texts::wrong(&rt)
 }

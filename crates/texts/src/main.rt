@@ -7,14 +7,12 @@ use reading::{read_order, text_room};
 use std::io;
 use std::rt::{Env, Files};
 use streams::{WORD, fill, say_failed, word, word_count};
-use writing::refusal::{REFUSAL, write_refusal};
+use writing::refusal::RefusalLine;
 
 fn answer(rt: &impl Print, text: &[u8]) -> io::Result<()> {
     let read = read_order(text);
     if read.number != 0 {
-        let mut line = [0u8; REFUSAL];
-        let k = write_refusal(read.number, read.z, &mut line);
-        return rt.write_all(&line[..k]);
+        return rt.write_all(RefusalLine::of(read.number, read.z).bytes());
     }
     let planned = make_plan(read.order, false);
     let mut room = [0u8; ROOM];
@@ -27,13 +25,13 @@ fn answer(rt: &impl Print, text: &[u8]) -> io::Result<()> {
 
 // The text in the file that the argument names.
 fn one(rt: &(impl Env + Files + Print + Eprint + Alloc), which: usize) -> io::Result<()> {
-    let mut name = [0u8; WORD];
-    let length = word(rt, which, &mut name);
-    rt.write_all(&name[..length])?;
+    let mut path = [0u8; WORD];
+    let name = word(rt, which, &mut path);
+    rt.write_all(name)?;
     println!(rt)?;
-    let mut file = match streams::open(rt, &name[..length]) {
+    let mut file = match streams::open(rt, name) {
         Ok(file) => file,
-        Err(error) => return say_failed(rt, &name[..length], error),
+        Err(error) => return say_failed(rt, name, error),
     };
     let mut buffer = text_room();
     let n = fill(&mut file, &mut buffer);

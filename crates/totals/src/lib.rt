@@ -15,10 +15,7 @@ use planning::{Phase, Plan};
 pub fn size_in_limits(plan: Plan) -> bool
     ensures { result ≡ in_limits plan.geometry && count_in_limits plan }
 {
-    if !bank::in_limits(plan.geometry) {
-        return false;
-    }
-    plan.count <= PASSES as u32
+    bank::in_limits(plan.geometry) && plan.count <= PASSES as u32
 }
 
 // How many phases a memoryload of the plan has.
@@ -43,7 +40,7 @@ pub fn total_steps(plan: Plan) -> u64
     let size = bank::power(plan.geometry.n);
     let block = bank::power(plan.geometry.b);
     let drives = bank::power(plan.geometry.d);
-    phases(plan) * size / (block * drives) * bank::wide(plan.count)
+    phases(plan) * size / (block * drives) * u64::from(plan.count)
 }
 
 // The area where the result lies.

@@ -1,54 +1,66 @@
 // The words of the call.
+use std::fmt;
+use std::fmt::{Display, Formatter};
 use std::rt::Env;
-use words::{Word, is_word, read_number};
+use streams::{WORD, word, word_count};
+use words::{is_word, read_number};
 
-// How often each step is sent again, and whether the spent area is blanked; or what is wrong with the call.
-#[derive(Clone, Copy)]
-pub(crate) enum Asked {
-    Times(u64, bool),
+// How often each step is sent again, and whether the spent area is blanked.
+#[derive(Clone, Copy, Debug, PartialEq, Eq)]
+pub(crate) struct Call {
+    pub(crate) again: u64,
+    pub(crate) blanks: bool,
+}
+
+// What is wrong with the call.
+#[derive(Clone, Copy, Debug, PartialEq, Eq)]
+pub(crate) enum WrongCall {
     Missing,
     TooMany,
     NoNumber,
     NoBlank,
 }
 
+impl Display for WrongCall {
+    fn fmt<W: fmt::Write>(&self, f: &mut Formatter<W>) -> fmt::Result {
+        match self {
+            WrongCall::Missing => write!(f, "no order is named"),
+            WrongCall::TooMany => write!(f, "too many words"),
+            WrongCall::NoNumber => write!(f, "AGAIN is no number"),
+            WrongCall::NoBlank => write!(f, "the last word isn't blank"),
+        }
+    }
+}
+
 // Whether a word of the call is `blank`.
 fn says_blank<R: Env>(rt: &R, which: usize) -> bool {
-    let mut word = [0u8; streams::WORD];
-    let length = streams::word(rt, which, &mut word);
-    is_word(&word[..length], b"blank")
+    let mut room = [0u8; WORD];
+    is_word(word(rt, which, &mut room), b"blank")
 }
 
 // The second word as a number.
-fn read_again<R: Env>(rt: &R, blanks: bool) -> Asked {
-    let mut word = [0u8; streams::WORD];
-    let length = streams::word(rt, 2, &mut word);
-    let Word::Number(k) = read_number(&word[..length]) else {
-        return Asked::NoNumber;
-    };
-    Asked::Times(k, blanks)
+fn read_again<R: Env>(rt: &R) -> Result<u64, WrongCall> {
+    let mut room = [0u8; WORD];
+    read_number(word(rt, 2, &mut room)).ok_or(WrongCall::NoNumber)
 }
 
 // The second word is a number, 0 where there is none; the last may be `blank`.
-pub(crate) fn read_call<R: Env>(rt: &R) -> Asked {
-    let count = streams::word_count(rt);
+pub(crate) fn read_call<R: Env>(rt: &R) -> Result<Call, WrongCall> {
+    let count = word_count(rt);
     if count < 2 {
-        return Asked::Missing;
-    }
-    if count == 2 {
-        return Asked::Times(0, false);
+        return Err(WrongCall::Missing);
     }
     if 4 < count {
-        return Asked::TooMany;
+        return Err(WrongCall::TooMany);
     }
-    if count == 4 {
-        if says_blank(rt, 3) {
-            return read_again(rt, true);
-        }
-        return Asked::NoBlank;
+    let blanks = 2 < count && says_blank(rt, count - 1);
+    if count == 4 && !blanks {
+        return Err(WrongCall::NoBlank);
     }
-    if says_blank(rt, 2) {
-        return Asked::Times(0, true);
-    }
-    read_again(rt, false)
+    let again = if count == 4 || count == 3 && !blanks {
+        read_again(rt)?
+    } else {
+        0
+    };
+    Ok(Call { again, blanks })
 }

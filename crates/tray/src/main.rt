@@ -6,7 +6,7 @@
 mod say; // say.rt: the lines on standard error
 mod call; // call.rt: the words of the call
 
-use crate::call::{Asked, read_call};
+use crate::call::{Call, read_call};
 use copying::look::all_zero;
 use delivery::{Delivery, deliver};
 use reading::text_room;
@@ -15,6 +15,7 @@ use std::io;
 use std::io::IsTerminal;
 use std::rt::{Env, Files};
 use streams::{WORD, fill, say_failed, word};
+use writing::refusal::RefusalLine;
 
 // The most bytes of a run, and of its memory, which has at most half as many records.
 const AREA: usize = 2097152;
@@ -35,28 +36,28 @@ fn how_to_say<E: IsTerminal>(err: &E) -> Progress {
 // Says that no byte of the run is left in the other area and in memory, after a look at every byte of them.
 fn look<E: Print>(err: &E, spare: &[u8], memory: &[u8]) -> io::Result<()> {
     if !all_zero(spare) {
-        return say::not_blanked(err, b"the other area");
+        return println!(err; "the other area isn't zero in every byte");
     }
     if !all_zero(memory) {
-        return say::not_blanked(err, b"the memory");
+        return println!(err; "the memory isn't zero in every byte");
     }
-    say::blanked(err)
+    println!(err; "the other area and the memory are zero in every byte")
 }
 
 // The run as it came in goes out in tray order, or nothing does.
+// The three buffers are passed on one by one, as `deliver` takes them: a struct would only be taken apart again.
 fn answer<R: Print + Eprint + Alloc, E: Print + Eprint + IsTerminal>(
     rt: &R,
     err: &E,
     text: &[u8],
-    blanks: bool,
-    again: u64,
+    call: Call,
     run: &mut [u8],
     spare: &mut [u8],
     memory: &mut [u8],
 ) -> io::Result<()> {
+    let Call { again, blanks } = call;
     let progress = how_to_say(err);
-    let delivery = deliver(err, text, blanks, again, progress, run, spare, memory);
-    match delivery {
+    match deliver(err, text, blanks, again, progress, run, spare, memory) {
         Delivery::Done => {
             if let Err(error) = rt.write_all(run) {
                 say_failed(rt, b"standard output", error)?;
@@ -66,54 +67,33 @@ fn answer<R: Print + Eprint + Alloc, E: Print + Eprint + IsTerminal>(
             }
             Ok(())
         }
-        Delivery::Refused(k, z) => say::refused(err, k, z),
-        Delivery::NoRoom(size) => say::no_room(err, size, AREA as u64, MEMORY as u64),
+        Delivery::Refused(number, z) => err.write_all(RefusalLine::of(number, z).bytes()),
+        Delivery::NoRoom(size) => {
+            println!(err;
+                "the run has {size} bytes and doesn't fit: tray has {AREA} bytes an area and {MEMORY} bytes of memory"
+            )
+        }
     }
 }
 
-// Standard input is read to its end, or until it is longer than any run that has room.
-fn take_in<R: Input + Print + Eprint + Alloc, E: Print + Eprint + IsTerminal>(
+// The text in the file that the first word names, and the run: standard input is read to its end, or until it is longer than any run that has room.
+fn take_in<R: Env + Files + Input + Print + Eprint + Alloc, E: Print + Eprint + IsTerminal>(
     rt: &R,
     err: &E,
-    text: &[u8],
-    blanks: bool,
-    again: u64,
-    run: &mut [u8],
-    spare: &mut [u8],
-    memory: &mut [u8],
-) -> io::Result<()> {
-    let mut records = rt.reader();
-    let came = fill(&mut records, run);
-    answer(
-        rt,
-        err,
-        text,
-        blanks,
-        again,
-        &mut run[..came],
-        spare,
-        memory,
-    )
-}
-
-// The text in the file that the first word names.
-fn open<R: Env + Files + Input + Print + Eprint + Alloc, E: Print + Eprint + IsTerminal>(
-    rt: &R,
-    err: &E,
-    blanks: bool,
-    again: u64,
+    call: Call,
     run: &mut [u8],
     spare: &mut [u8],
     memory: &mut [u8],
 ) -> io::Result<()> {
     let mut path = [0u8; WORD];
-    let length = word(rt, 1, &mut path);
-    let Ok(mut order) = streams::open(rt, &path[..length]) else {
-        return say::not_opened(err, &path[..length]);
+    let name = word(rt, 1, &mut path);
+    let Ok(mut order) = streams::open(rt, name) else {
+        return say::not_opened(err, name);
     };
     let mut text = text_room();
     let n = fill(&mut order, &mut text);
-    take_in(rt, err, &text[..n], blanks, again, run, spare, memory)
+    let came = fill(&mut rt.reader(), run);
+    answer(rt, err, &text[..n], call, &mut run[..came], spare, memory)
 }
 
 // Lent by their types, the buffers need no proof of their lengths.
@@ -125,11 +105,8 @@ fn start<R: Env + Files + Input + Print + Eprint + Alloc, E: Print + Eprint + Is
     memory: &mut [u8; MEMORY],
 ) -> io::Result<()> {
     match read_call(rt) {
-        Asked::Times(k, blanks) => open(rt, err, blanks, k, run, spare, memory),
-        Asked::Missing => say::missing(err),
-        Asked::TooMany => say::too_many(err),
-        Asked::NoNumber => say::no_number(err),
-        Asked::NoBlank => say::no_blank(err),
+        Ok(call) => take_in(rt, err, call, run, spare, memory),
+        Err(wrong) => say::wrong_call(err, wrong),
     }
 }
 

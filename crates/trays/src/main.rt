@@ -7,15 +7,15 @@ mod spent; // spent.rt: the other area and the memory, before a delivery and aft
 
 ghost use Rattle.std.specs.Io.{ReadsAtMost};
 
-use crate::spent::{mark, zeros};
+use crate::spent::{MARK, zeros};
 use delivery::{Delivery, deliver};
 use reading::text_room;
 use sending::progress::Progress;
 use std::io;
 use std::rt::{Env, Files};
-use streams::{WORD, fill, say_failed};
-use words::{Word, is_word, read_number};
-use writing::refusal::{REFUSAL, write_refusal};
+use streams::{WORD, fill, say_failed, word, word_count};
+use words::{is_word, read_number};
+use writing::refusal::RefusalLine;
 
 // The most bytes of a run and of its memory, and a run with one byte by which to see that more came.
 const AREA: usize = 65536;
@@ -23,14 +23,6 @@ const AREA: usize = 65536;
 const MEMORY: usize = AREA / 2;
 
 const INPUT: usize = AREA + 1;
-
-fn words<R: Print>(rt: &R, w: &[u8]) -> io::Result<()> {
-    rt.write_all(w)
-}
-
-fn count<R: Print>(rt: &R, n: u64) -> io::Result<()> {
-    rt.print(n)
-}
 
 // The file that an argument names, read to its end or until there is no room: how many bytes came.
 fn file<R: Env + Files + Print + Eprint + Alloc>(
@@ -41,27 +33,19 @@ fn file<R: Env + Files + Print + Eprint + Alloc>(
     ensures { ReadsAtMost result into.new }
 {
     let mut path = [0u8; WORD];
-    let length = streams::word(rt, which, &mut path);
-    words(rt, &path[..length])?;
-    words(rt, b" ")?;
-    match streams::open(rt, &path[..length]) {
+    let name = word(rt, which, &mut path);
+    rt.write_all(name)?;
+    print!(rt; " ")?;
+    match streams::open(rt, name) {
         Ok(mut opened) => Ok(fill(&mut opened, into)),
         Err(error) => {
-            say_failed(rt, &path[..length], error)?;
+            say_failed(rt, name, error)?;
             Ok(0)
         }
     }
 }
 
-// Both were marked whole, so the counts tell a byte too many that was blanked as they tell one too few.
-fn tell_zeros<R: Print>(rt: &R, spare: &[u8], memory: &[u8]) -> io::Result<()> {
-    words(rt, b"zero: ")?;
-    count(rt, zeros(spare))?;
-    words(rt, b" of the other area, ")?;
-    count(rt, zeros(memory))?;
-    words(rt, b" of memory\n")
-}
-
+// The three buffers are passed on one by one, as `deliver` takes them: a struct would only be taken apart again.
 fn answer<R: Print + Eprint>(
     rt: &R,
     text: &[u8],
@@ -71,75 +55,59 @@ fn answer<R: Print + Eprint>(
     spare: &mut [u8],
     memory: &mut [u8],
 ) -> io::Result<()> {
-    let delivery = deliver(
-        rt,
-        text,
-        blanks,
-        again,
-        Progress::Silent,
-        run,
-        spare,
-        memory,
-    );
-    match delivery {
+    let progress = Progress::Silent;
+    match deliver(rt, text, blanks, again, progress, run, spare, memory) {
         Delivery::Done => {
-            words(rt, run)?;
+            rt.write_all(run)?;
             if blanks {
-                return tell_zeros(rt, spare, memory);
+                // Both were marked whole, so the counts tell a byte too many that was blanked as they tell one too few.
+                println!(rt;
+                    "zero: {} of the other area, {} of memory",
+                    zeros(spare),
+                    zeros(memory)
+                )?;
             }
             Ok(())
         }
-        Delivery::Refused(number, z) => {
-            let mut line = [0u8; REFUSAL];
-            let k = write_refusal(number, z, &mut line);
-            words(rt, &line[..k])
-        }
-        Delivery::NoRoom(size) => {
-            words(rt, b"no room for ")?;
-            count(rt, size)?;
-            words(rt, b"\n")
-        }
+        Delivery::Refused(number, z) => rt.write_all(RefusalLine::of(number, z).bytes()),
+        Delivery::NoRoom(size) => println!(rt; "no room for {size}"),
     }
 }
 
 // How often each step is sent again, by an argument that is a number.
 fn times<R: Env + Print>(rt: &R, which: usize) -> io::Result<u64> {
-    let mut word = [0u8; WORD];
-    let length = streams::word(rt, which, &mut word);
-    words(rt, &word[..length])?;
-    words(rt, b" ")?;
-    let Word::Number(k) = read_number(&word[..length]) else {
-        return Ok(0);
-    };
-    Ok(k)
+    let mut room = [0u8; WORD];
+    let number = word(rt, which, &mut room);
+    rt.write_all(number)?;
+    print!(rt; " ")?;
+    Ok(read_number(number).unwrap_or(0))
 }
 
 // Whether an argument, the last of a delivery, is `blank`.
 fn says_blank<R: Env + Print>(rt: &R, which: usize) -> io::Result<bool> {
-    let mut word = [0u8; WORD];
-    let length = streams::word(rt, which, &mut word);
-    words(rt, &word[..length])?;
-    words(rt, b"\n")?;
-    Ok(is_word(&word[..length], b"blank"))
+    let mut room = [0u8; WORD];
+    let last = word(rt, which, &mut room);
+    rt.write_all(last)?;
+    println!(rt)?;
+    Ok(is_word(last, b"blank"))
 }
 
+// The delivery of four words, by their places among the arguments.
 fn one<R: Env + Files + Print + Eprint + Alloc>(
     rt: &R,
-    order: usize,
-    input: usize,
-    again: usize,
-    blank: usize,
+    words: [usize; 4],
     run: &mut [u8],
     spare: &mut [u8],
     memory: &mut [u8],
 ) -> io::Result<()> {
+    let [order, input, again, blank] = words;
     let mut text = text_room();
     let n = file(rt, order, &mut text)?;
     let came = file(rt, input, run)?;
     let k = times(rt, again)?;
     let blanks = says_blank(rt, blank)?;
-    mark(spare);
-    mark(memory);
+    spare.fill(MARK);
+    memory.fill(MARK);
     answer(rt, &text[..n], blanks, k, &mut run[..came], spare, memory)
 }
 
@@ -150,12 +118,9 @@ fn all<R: Env + Files + Print + Eprint + Alloc>(
     spare: &mut [u8; AREA],
     memory: &mut [u8; MEMORY],
 ) -> io::Result<()> {
-    let deliveries = streams::word_count(rt) / 4;
-    let mut i = 0;
-    while i < deliveries {
+    for i in 0..word_count(rt) / 4 {
         let k = i * 4;
-        one(rt, k + 1, k + 2, k + 3, k + 4, run, spare, memory)?;
-        i += 1;
+        one(rt, [k + 1, k + 2, k + 3, k + 4], run, spare, memory)?;
     }
     Ok(())
 }

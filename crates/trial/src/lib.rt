@@ -5,6 +5,7 @@ ghost use Rattle.std.specs.Prelude.{◌≡◌};
 ghost use Rattle.trial.specs.Orders.{G, exchange_order, four_rows, gray_order, identity_order, largest_order, reversal_order, small_order, two_rows};
 
 use bank::{Geometry, ROWS};
+use matrix::rows;
 use order::Order;
 
 pub fn geometry(n: u32, b: u32, d: u32, m: u32, r: u32) -> Geometry
@@ -18,13 +19,10 @@ pub fn order(g: Geometry, r0: u32, r1: u32, r2: u32, r3: u32, c: u32) -> Order
     ensures { result ≡ four_rows g r0 r1 r2 r3 c }
 {
     let mut rows = [0u32; ROWS];
-    rows[0] = r0;
-    rows[1] = r1;
-    rows[2] = r2;
-    rows[3] = r3;
+    rows[..4].copy_from_slice(&[r0, r1, r2, r3]);
     Order {
         geometry: g,
-        rows: rows,
+        rows,
         complement: c,
     }
 }
@@ -33,14 +31,7 @@ pub fn order(g: Geometry, r0: u32, r1: u32, r2: u32, r3: u32, c: u32) -> Order
 pub fn in_g(r0: u32, r1: u32, r2: u32, r3: u32, c: u32) -> Order
     ensures { result ≡ four_rows G r0 r1 r2 r3 c }
 {
-    let g = Geometry {
-        n: 4,
-        b: 1,
-        d: 1,
-        m: 2,
-        r: 8,
-    };
-    order(g, r0, r1, r2, r3, c)
+    order(geometry(4, 1, 1, 2, 8), r0, r1, r2, r3, c)
 }
 
 pub fn reversal() -> Order
@@ -71,14 +62,7 @@ pub fn exchange() -> Order
 pub fn two_rows(r0: u32, r1: u32) -> Order
     ensures { result ≡ two_rows r0 r1 }
 {
-    let g = Geometry {
-        n: 2,
-        b: 0,
-        d: 0,
-        m: 1,
-        r: 8,
-    };
-    order(g, r0, r1, 0, 0, 0)
+    order(geometry(2, 0, 0, 1, 8), r0, r1, 0, 0, 0)
 }
 
 pub fn small() -> Order
@@ -91,16 +75,9 @@ pub fn small() -> Order
 pub fn largest(n: u32, r: u32) -> Order
     ensures { result ≡ largest_order n r }
 {
-    let rows = matrix::rows::identity(ROWS);
     Order {
-        geometry: Geometry {
-            n,
-            b: 6,
-            d: 2,
-            m: 14,
-            r,
-        },
-        rows,
+        geometry: geometry(n, 6, 2, 14, r),
+        rows: rows::identity(ROWS),
         complement: 0,
     }
 }

@@ -1,6 +1,9 @@
 // The trials at the limits: 32 bits of an address, records of 256 bytes, 17 passes, and totals past 32 bits.
+ghost use Rattle.std.specs.Prelude.{◌≤◌};
+ghost use Rattle.bank.specs.Limits;
+
 use crate::{orders, plans, say};
-use bank::{Geometry, PLACES, ROWS, Step};
+use bank::{Geometry, ROWS, Step};
 use matrix::rows::identity;
 use mover::run::run;
 use mover::step::{Stepped, step};
@@ -17,39 +20,31 @@ pub(crate) const LAST: u64 = 4294967295;
 
 pub(crate) const SIZE: u64 = 4294967296;
 
+// Bit 31.
+const HIGH: u32 = 2147483648;
+
 // An order with n = 32.
 fn order(rows: [u32; ROWS], b: u32, d: u32, m: u32, r: u32) -> Order {
     Order {
         geometry: geometry(32, b, d, m, r),
-        rows: rows,
+        rows,
         complement: 4294967295,
     }
 }
 
 // Bit 31 in every row: alone, so that all rows are the same, or beside the row's own bit.
 fn same_rows() -> [u32; ROWS] {
-    [2147483648u32; ROWS]
+    [HIGH; ROWS]
 }
 
 fn high_rows() -> [u32; ROWS] {
-    let mut rows = identity(ROWS);
-    let mut i = 0;
-    while i < ROWS {
-        rows[i] = rows[i] | 2147483648;
-        i += 1;
-    }
-    rows
+    identity(ROWS).map(|row| row | HIGH)
 }
 
 // The bit reversal.
 fn reversed_rows() -> [u32; ROWS] {
-    let all = identity(ROWS);
-    let mut rows = [0u32; ROWS];
-    let mut i = 0;
-    while i < ROWS {
-        rows[i] = all[ROWS - 1 - i];
-        i += 1;
-    }
+    let mut rows = identity(ROWS);
+    rows.reverse();
     rows
 }
 
@@ -97,55 +92,47 @@ pub(crate) fn made(rt: &impl Print) -> io::Result<()> {
 }
 
 // A plan whose passes leave every record at its address.
-fn still(g: Geometry, count: u32) -> Plan {
+fn still(g: Geometry, count: u32) -> Plan
+    requires { g.n ≤ Limits.ROWS }
+{
     let mut p = store::empty_plan();
-    let n = g.n as usize;
-    if ROWS < n {
-        return p;
-    }
-    let unit = identity(n);
-    let mut rows = [0u32; PLACES];
-    let mut q = 0;
-    while q < PLACES {
+    let unit = identity(g.n as usize);
+    for (q, row) in p.rows.iter_mut().enumerate() {
         if q / ROWS < count as usize {
-            rows[q] = unit[q % ROWS];
+            *row = unit[q % ROWS];
         }
-        q += 1;
     }
     p.geometry = g;
     p.count = count;
-    p.rows = rows;
     p
 }
 
 // At how many n, from 2 to 32, a plan of so many passes can run.
-fn sizes(count: u32) -> u64 {
-    let mut found = 0u64;
-    let mut n = 2u32;
-    while n <= ROWS as u32 {
-        let p = still(geometry(n, 0, 0, 1, 1), count);
-        if can_run(p, State::fresh()) {
-            found = found % 1000000 + 1;
-        }
-        n += 1;
-    }
-    found
+fn sizes(count: u32) -> usize {
+    (2..33)
+        .filter(|n| can_run(still(geometry(*n, 0, 0, 1, 1), count), State::fresh()))
+        .count()
 }
 
 pub(crate) fn counts(rt: &impl Print) -> io::Result<()> {
-    say::one(rt, "no passes, so many n at which they can run", sizes(0))?;
-    say::one(rt, "14 passes, so many n at which they can run", sizes(14))?;
-    say::one(rt, "15 passes, so many n at which they can run", sizes(15))?;
-    say::one(rt, "16 passes, so many n at which they can run", sizes(16))?;
-    say::one(rt, "17 passes, so many n at which they can run", sizes(17))?;
-    say::one(rt, "18 passes, so many n at which they can run", sizes(18))
+    for (asked, count) in [
+        ("no passes, so many n at which they can run", 0),
+        ("14 passes, so many n at which they can run", 14),
+        ("15 passes, so many n at which they can run", 15),
+        ("16 passes, so many n at which they can run", 16),
+        ("17 passes, so many n at which they can run", 17),
+        ("18 passes, so many n at which they can run", 18),
+    ] {
+        say::line(rt, asked, &[sizes(count) as u64])?;
+    }
+    Ok(())
 }
 
 // The longest run: 17 passes of 2^33 steps.
 pub(crate) fn totals(rt: &impl Print) -> io::Result<()> {
     let p = still(geometry(32, 0, 0, 1, 256), 17);
     let total = 146028888064;
-    say::one(rt, "n = 32, 17 passes, the total", total_steps(p))?;
+    say::line(rt, "n = 32, 17 passes, the total", &[total_steps(p)])?;
     plans::runs(rt, "next 2^32", p, SIZE)?;
     plans::runs(rt, "next at the total", p, total)?;
     plans::runs(rt, "next above the total", p, total + 1)?;
@@ -155,21 +142,15 @@ pub(crate) fn totals(rt: &impl Print) -> io::Result<()> {
 
 // A step and a run from a state, with no bytes lent: both are refused.
 fn short(rt: &impl Print, asked: &str, p: Plan, next: u64, k: u64) -> io::Result<()> {
-    let mut area0 = [0u8; 0];
-    let mut area1 = [0u8; 0];
-    let mut memory = [0u8; 0];
     let s = State { next: Step(next) };
-    let r = step(p, s, Step(k), &mut area0, &mut area1, &mut memory);
-    if let Stepped::Refused(number, _) = r {
-        say::one(rt, asked, number as u64)?;
+    if let Stepped::Refused(number, _) = step(p, s, Step(k), &mut [], &mut [], &mut []) {
+        say::line(rt, asked, &[u64::from(number)])?;
     }
-    let ran = run(p, s, LAST, &mut area0, &mut area1, &mut memory);
-    say::three(
+    let ran = run(p, s, LAST, &mut [], &mut [], &mut []);
+    say::line(
         rt,
         "and a run",
-        ran.number as u64,
-        ran.count,
-        ran.state.next.0,
+        &[u64::from(ran.number), ran.count, ran.state.next.0],
     )
 }
 

@@ -19,6 +19,7 @@ fn main(rt: HostRuntime) -> io::Result<()> {
     why::small(&rt)?;
     why::wide(&rt)?;
     plans::made(&rt)?;
+    plans::rows(&rt)?;
     plans::judged(&rt)?;
     plans::judged_more(&rt)?;
     plans::spilling(&rt)?;

@@ -1,6 +1,6 @@
 // The trial orders on plans: what is planned, and which plans can run.
 use crate::say;
-use bank::Step;
+use bank::{ROWS, Step};
 use order::Order;
 use plan::make::make_plan;
 use planning::Plan;
@@ -9,20 +9,22 @@ use running::can_run;
 use std::io;
 use totals::{result_area, total_steps};
 
-// Number, passes, steps, result area and z, where the plan blanks or doesn't; and whether it says so.
-pub(crate) fn planned_so(rt: &impl Print, asked: &str, o: Order, blanks: bool) -> io::Result<bool> {
-    let p = make_plan(o, blanks);
-    let made = p.plan;
-    say::five(
+// Number, passes, steps, result area and z, where the plan blanks or doesn't; and the plan.
+pub(crate) fn planned_so(rt: &impl Print, asked: &str, o: Order, blanks: bool) -> io::Result<Plan> {
+    let made = make_plan(o, blanks);
+    let p = made.plan;
+    say::line(
         rt,
         asked,
-        p.number as u64,
-        made.count as u64,
-        total_steps(made),
-        result_area(made) as u64,
-        p.z.0,
+        &[
+            u64::from(made.number),
+            u64::from(p.count),
+            total_steps(p),
+            u64::from(result_area(p)),
+            made.z.0,
+        ],
     )?;
-    Ok(made.blanks)
+    Ok(p)
 }
 
 pub(crate) fn planned(rt: &impl Print, asked: &str, o: Order) -> io::Result<()> {
@@ -32,70 +34,76 @@ pub(crate) fn planned(rt: &impl Print, asked: &str, o: Order) -> io::Result<()> 
 
 pub(crate) fn runs(rt: &impl Print, asked: &str, p: Plan, next: u64) -> io::Result<()> {
     let s = State { next: Step(next) };
-    let mut answer = 0u64;
-    if can_run(p, s) {
-        answer = 1;
-    }
-    say::one(rt, asked, answer)
+    say::line(rt, asked, &[u64::from(can_run(p, s))])
 }
 
-fn row(rt: &impl Print, asked: &str, p: Plan, at: usize) -> io::Result<()> {
-    let rows = p.rows;
-    if at < bank::PLACES {
-        say::one(rt, asked, rows[at] as u64)?;
+// The plan of an order, where it blanks or doesn't.
+pub(crate) fn plan(o: Order, blanks: bool) -> Plan {
+    make_plan(o, blanks).plan
+}
+
+fn reversal() -> Plan {
+    plan(trial::reversal(), false)
+}
+
+pub(crate) fn made(rt: &impl Print) -> io::Result<()> {
+    for (asked, o) in [
+        ("reversal", trial::reversal()),
+        ("identity, c = 15", trial::identity(15)),
+        ("identity", trial::identity(0)),
+        ("Gray code", trial::gray()),
+        ("0010 0001 1000 0100", trial::exchange()),
+        ("n = 2, 01 10", trial::small()),
+        ("n = 2, rows 11, 11", trial::two_rows(3, 3)),
+        (
+            "b = m",
+            trial::order(trial::geometry(4, 2, 0, 2, 8), 8, 4, 2, 1, 0),
+        ),
+        ("G, a row of 16", trial::in_g(16, 2, 4, 8, 0)),
+    ] {
+        planned(rt, asked, o)?;
     }
     Ok(())
 }
 
-fn reversal() -> Plan {
-    let p = make_plan(trial::reversal(), false);
-    p.plan
-}
-
-pub(crate) fn made(rt: &impl Print) -> io::Result<()> {
-    planned(rt, "reversal", trial::reversal())?;
-    planned(rt, "identity, c = 15", trial::identity(15))?;
-    planned(rt, "identity", trial::identity(0))?;
-    planned(rt, "Gray code", trial::gray())?;
-    planned(rt, "0010 0001 1000 0100", trial::exchange())?;
-    planned(rt, "n = 2, 01 10", trial::small())?;
-    planned(rt, "n = 2, rows 11, 11", trial::two_rows(3, 3))?;
-    planned(
-        rt,
-        "b = m",
-        trial::order(trial::geometry(4, 2, 0, 2, 8), 8, 4, 2, 1, 0),
-    )?;
-    planned(rt, "G, a row of 16", trial::in_g(16, 2, 4, 8, 0))?;
-    let p = reversal();
-    row(rt, "reversal, pass 0, row 0", p, 0)?;
-    row(rt, "reversal, pass 0, row 1", p, 1)?;
-    row(rt, "reversal, pass 1, row 2", p, bank::ROWS + 2)?;
-    row(rt, "reversal, pass 2, row 0", p, 2 * bank::ROWS)?;
-    row(rt, "reversal, pass 2, row place 4", p, 2 * bank::ROWS + 4)?;
-    row(rt, "reversal, pass 3, row 0", p, 3 * bank::ROWS)
+// Some rows of the reversal's plan, by their places.
+pub(crate) fn rows(rt: &impl Print) -> io::Result<()> {
+    let rows = reversal().rows;
+    for (asked, row) in [
+        ("reversal, pass 0, row 0", rows[0]),
+        ("reversal, pass 0, row 1", rows[1]),
+        ("reversal, pass 1, row 2", rows[ROWS + 2]),
+        ("reversal, pass 2, row 0", rows[2 * ROWS]),
+        ("reversal, pass 2, row place 4", rows[2 * ROWS + 4]),
+        ("reversal, pass 3, row 0", rows[3 * ROWS]),
+    ] {
+        say::line(rt, asked, &[u64::from(row)])?;
+    }
+    Ok(())
 }
 
 // One plan for each condition of number 7.
 pub(crate) fn judged(rt: &impl Print) -> io::Result<()> {
-    runs(rt, "reversal, next 0", reversal(), 0)?;
-    runs(rt, "reversal, next 24", reversal(), 24)?;
-    runs(rt, "reversal, next 25", reversal(), 25)?;
+    let made = reversal();
+    runs(rt, "reversal, next 0", made, 0)?;
+    runs(rt, "reversal, next 24", made, 24)?;
+    runs(rt, "reversal, next 25", made, 25)?;
     runs(rt, "the empty plan", store::empty_plan(), 0)?;
-    let mut p = reversal();
+    let mut p = made;
     p.geometry.m = 4;
     runs(rt, "m = n", p, 0)?;
-    p = reversal();
+    p = made;
     p.geometry.r = 257;
     runs(rt, "R = 257", p, 0)?;
-    p = reversal();
+    p = made;
     p.count = 0;
     runs(rt, "three passes, none counted", p, 0)?;
     p.count = 18;
     runs(rt, "18 passes", p, 0)?;
-    p = reversal();
+    p = made;
     p.rows[0] = 21;
     runs(rt, "a stray bit in a row", p, 0)?;
-    p = reversal();
+    p = made;
     p.complements[0] = 16;
     runs(rt, "a stray bit in a complement", p, 0)?;
     p.complements[0] = 3;
@@ -103,19 +111,20 @@ pub(crate) fn judged(rt: &impl Print) -> io::Result<()> {
 }
 
 pub(crate) fn judged_more(rt: &impl Print) -> io::Result<()> {
-    let mut p = reversal();
-    p.rows[3 * bank::ROWS] = 1;
+    let made = reversal();
+    let mut p = made;
+    p.rows[3 * ROWS] = 1;
     runs(rt, "a row of an unused pass", p, 0)?;
-    p = reversal();
+    p = made;
     p.complements[3] = 1;
     runs(rt, "a complement of an unused pass", p, 0)?;
-    p = reversal();
+    p = made;
     p.rows[4] = 1;
     runs(rt, "a row place beyond n", p, 0)?;
-    p = reversal();
-    p.rows[bank::ROWS] = 0;
+    p = made;
+    p.rows[ROWS] = 0;
     runs(rt, "a singular pass", p, 0)?;
-    p = reversal();
+    p = made;
     p.count = 2;
     runs(rt, "a pass that isn't counted", p, 0)
 }
@@ -125,14 +134,8 @@ pub(crate) fn spilling(rt: &impl Print) -> io::Result<()> {
     let mut p = store::empty_plan();
     p.geometry = trial::geometry(4, 1, 1, 2, 8);
     p.count = 1;
-    p.rows[0] = 8;
-    p.rows[1] = 4;
-    p.rows[2] = 2;
-    p.rows[3] = 1;
+    p.rows[..4].copy_from_slice(&[8, 4, 2, 1]);
     runs(rt, "a spilling pass", p, 0)?;
-    p.rows[0] = 1;
-    p.rows[1] = 2;
-    p.rows[2] = 4;
-    p.rows[3] = 8;
+    p.rows[..4].copy_from_slice(&[1, 2, 4, 8]);
     runs(rt, "the same with the identity", p, 0)
 }

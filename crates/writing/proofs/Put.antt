@@ -1,9 +1,10 @@
 -- What is a room after several texts were written, one after the other? Assumes nothing.
 use mathlib.Core.Path.{◌≡◌, refl, sym, ap, ◌∙◌}
 use mathlib.Core.List.{List, [], ◌∷◌, ◌++◌, append_assoc}
-use Prim.Native.Nat.{ℕ, suc, ◌+◌, ◌≤◌, ◌<◌}
+use Prim.Native.Nat.{ℕ, suc, ◌+◌, ◌-◌, ◌≤◌, ◌<◌}
 use native.Mathlib.Omega.{arith}
 use native.Mathlib.Numerals.{add-one}
+use borrow.Rule.Slice.PartMut.{put_mid}
 use lib.ListN.{length, set, take, drop, length-append, take-append-drop}
 use lib.Seq.{length-take-le, take-length, drop-drop, set-append_left, set_split, take-set-lt, take-suc-set, append_snoc}
 use lib.Seq.{paste, length-paste, take-paste, drop-paste}
@@ -51,6 +52,15 @@ put_before room at x t fits =
     let beyond : at + 1 + length t ≡ at + suc (length t) = omega arith in
     set-append_left (take (at + 1) room) (t ++ drop (at + 1 + length t) room) at x (omega (arith, length-take-le (at + 1) room (omega arith)))
     ∙ rw (front, beyond) (append_snoc (take at room) x (t ++ drop (at + suc (length t)) room))
+
+-- a text copied to its place
+pub copied : (room : List ℕ) (at : ℕ) (t copy : List ℕ) → copy ≡ t → Wrote room at t (put_mid at (at + length t - at) room copy) (at + length t)
+unfolding put
+copied room at t copy e =
+    let k = at + length t - at in
+    let past : at + k ≡ at + length t = omega arith in
+    let beyond : drop k (drop at room) ≡ drop (at + length t) room = drop-drop k at room ∙ ap (λ (i : ℕ). drop i room) past in
+    record { place = refl; is = rw (e, beyond) }
 
 -- ---- what was written, and then more
 pub wrote_none : (room : List ℕ) (at : ℕ) → Wrote room at [] room at

@@ -1,19 +1,18 @@
-// Words, numbers and rows are written at a place of a room that has the space.
-ghost use Rattle.std.specs.Prelude.{◌≡◌, ◌++◌, ◌+◌, ◌^◌, ◌<◌, ◌≤◌, length, take};
+// Words, numbers and rows are written at a place of a room that has the space. Room and place come one by one, as `Wrote` takes them.
+ghost use Rattle.std.specs.Prelude.{◌≡◌, ◌++◌, ◌+◌, ◌^◌, ◌<◌, ◌≤◌, length};
 ghost use Rattle.bank.specs.Limits;
 ghost use Rattle.text.specs.Lines.{line, decimal, bits, row_lines};
 ghost use Rattle.writing.specs.Written.{Wrote};
-
-use bank::ROWS;
 
 // How many digits a number has.
 fn decimal_size(v: u64) -> usize
     ensures { result ≡ length (decimal v) }
 {
-    let mut k = 1usize;
+    let mut k = 1;
     let mut x = v;
+    // The number shrinks until one digit is left; no range says when.
     while 10 <= x {
-        x = x / 10;
+        x /= 10;
         k += 1;
     }
     k
@@ -33,14 +32,11 @@ fn put_decimal(room: &mut [u8], at: usize, v: u64) -> usize
     ensures { Wrote room.old at (decimal v) room.new result }
 {
     let end = at + decimal_size(v);
-    let mut i = end;
     let mut x = v;
-    while 10 <= x {
-        i -= 1;
-        room[i] = 48 + (x % 10) as u8;
-        x = x / 10;
+    for i in (at..end).rev() {
+        room[i] = b'0' + (x % 10) as u8;
+        x /= 10;
     }
-    room[at] = 48 + x as u8;
     end
 }
 
@@ -48,14 +44,9 @@ fn put_word(room: &mut [u8], at: usize, word: &[u8]) -> usize
     requires { at + length word.now ≤ length room.old }
     ensures { Wrote room.old at word.now room.new result }
 {
-    let mut p = at;
-    let mut i = 0usize;
-    while i < word.len() {
-        room[p] = word[i];
-        p += 1;
-        i += 1;
-    }
-    p
+    let end = at + word.len();
+    room[at..end].copy_from_slice(word);
+    end
 }
 
 // A line of a word and a number.
@@ -65,7 +56,7 @@ pub fn put_line(room: &mut [u8], at: usize, word: &[u8], v: u64) -> usize
 {
     let p = put_word(room, at, word);
     let q = put_decimal(room, p, v);
-    room[q] = 10;
+    room[q] = b'\n';
     q + 1
 }
 
@@ -75,11 +66,9 @@ fn put_bits(room: &mut [u8], at: usize, v: u32, n: usize) -> usize
     ensures { Wrote room.old at (bits n v) room.new result }
 {
     let mut x = v;
-    let mut i = n;
-    while 0 < i {
-        room[at + n - i] = 48 + (x % 2) as u8;
-        x = x / 2;
-        i -= 1;
+    for i in 0..n {
+        room[at + i] = b'0' + (x % 2) as u8;
+        x /= 2;
     }
     at + n
 }
@@ -90,21 +79,18 @@ pub fn put_row(room: &mut [u8], at: usize, v: u32, n: usize) -> usize
     ensures { Wrote room.old at (line (bits n v)) room.new result }
 {
     let p = put_bits(room, at, v, n);
-    room[p] = 10;
+    room[p] = b'\n';
     p + 1
 }
 
-// The first n rows, a line for each.
-pub fn put_rows(room: &mut [u8], at: usize, rows: &[u32; ROWS], n: usize) -> usize
-    requires { (n ≤ Limits.ROWS) × (at + length (row_lines n (take n rows.now)) ≤ length room.old) }
-    ensures { Wrote room.old at (row_lines n (take n rows.now)) room.new result }
+// Rows of as many bits as there are rows, a line for each.
+pub fn put_rows(room: &mut [u8], at: usize, rows: &[u32]) -> usize
+    requires { (length rows.now ≤ Limits.ROWS) × (at + length (row_lines (length rows.now) rows.now) ≤ length room.old) }
+    ensures { Wrote room.old at (row_lines (length rows.now) rows.now) room.new result }
 {
-    let all = &rows[..];
     let mut p = at;
-    let mut i = 0usize;
-    while i < n {
-        p = put_row(room, p, all[i], n);
-        i += 1;
+    for row in rows {
+        p = put_row(room, p, *row, rows.len());
     }
     p
 }

@@ -1,22 +1,27 @@
 -- `entries::entry_at` meets its contract: what stands before the line's LF says a number, or no entry stands there. Assumes nothing.
-use native.Mathlib.Omega.{arith}
-use Rattle.entries.proofs.Found.{none_past, none_open, none_said, value_said}
+use mathlib.Core.Path.{◌≡◌, ◌∙◌}
+use lib.ListN.{drop}
+use Rattle.std.specs.Prelude.{Some, None}
+use Rattle.entries.proofs.Found.{LineEnds, left_is, none_open, none_said, value_said}
 use Rattle.entries.proofs.entry_at.Goals as goal
 
-pub returns-then-text-at : goal.returns-then-text-at
-returns-then-text-at c = let a = c.args in none_past a.text.now a.at (omega arith)
-
-pub returns-then-text-end : goal.returns-then-text-end
-returns-then-text-end c =
+pub returns-in_err-size : goal.returns-in_err-size
+returns-in_err-size c =
     let a = c.args in
-    none_open a.text.now a.at _ c.line_end-end.ensures (omega arith)
+    let r : c.in_ok-rest.rest.now ≡ drop a.at a.text.now = c.in_ok-rest.ensures.lookup.0.2 ∙ left_is a.text.now a.at in
+    let e : LineEnds c.in_ok-rest.rest.now None = cc c.in_err-size.ensures in
+    rw c.from_residual-in_err-size.ensures (none_open a.text.now a.at (rw r at e))
 
-pub returns-in_default : goal.returns-in_default
-returns-in_default c =
-    let line = c.line_end-end.ensures in
-    none_said _ _ _ line (line.from (omega arith)) (omega arith) c.in_default.ensures
+pub returns-in_err-v : goal.returns-in_err-v
+returns-in_err-v c =
+    let a = c.args in
+    let r : c.in_ok-rest.rest.now ≡ drop a.at a.text.now = c.in_ok-rest.ensures.lookup.0.2 ∙ left_is a.text.now a.at in
+    let e : LineEnds c.in_ok-rest.rest.now (Some c.in_ok-size.size) = cc c.in_ok-size.ensures in
+    rw c.from_residual-in_err-v.ensures (none_said a.text.now a.at _ (rw r at e) (rw r at c.in_err-v.ensures))
 
 pub returns : goal.returns
 returns c =
-    let line = c.line_end-end.ensures in
-    value_said _ _ _ line (line.from (omega arith)) (omega arith) _ c.in-Number.ensures
+    let a = c.args in
+    let r : c.in_ok-rest.rest.now ≡ drop a.at a.text.now = c.in_ok-rest.ensures.lookup.0.2 ∙ left_is a.text.now a.at in
+    let e : LineEnds c.in_ok-rest.rest.now (Some c.in_ok-size.size) = cc c.in_ok-size.ensures in
+    value_said a.text.now a.at _ (rw r at e) _ (rw r at c.in_ok-v.ensures)

@@ -13,10 +13,10 @@ returns-then-places-i c =
     let a = c.args in
     let l = c.loop-i in
     sym (least_is (λ i. leb a.from i && eqb (get_or a.places.now i 0) a.key) (length a.places.now) l.i (omega arith)
-    (rw (le-leb a.from l.i (omega arith), eq-eqb _ _ c.if-places-i.true)) l.invariant.1)
+    (rw (le-leb a.from l.i (omega arith), eq-eqb _ _ c.if-places-i.true)) l.invariant)
 
 pub returns : goal.returns
 returns c =
     let a = c.args in
     sym (least_none (λ i. leb a.from i && eqb (get_or a.places.now i 0) a.key) (length a.places.now)
-    (λ k h. c.loop-i.invariant.1 k (omega arith)))
+    (λ k h. c.loop-i.invariant k (omega arith)))

@@ -1,18 +1,17 @@
--- `rounds::is_busy` meets its contract. The loop's invariant: the columns of φ before j are zero. Assumes nothing.
-use mathlib.Core.Path.{◌∙◌, ap, sym}
+-- `rounds::is_busy` meets its contract: the walk asks of each column what the definition asks. Assumes nothing.
+use mathlib.Core.Path.{◌∙◌, refl}
 use mathlib.Core.Bool.{not}
 use native.Mathlib.Omega.{arith}
 use borrow.Author.Rules.{rules}
-use Rattle.rounds.proofs.Places.{busy_no, busy_yes}
+use Rattle.std.proofs.Common.{tests}
+use Rattle.std.proofs.lemmas.Iterator.{YieldsList-from_range}
+use Rattle.std.proofs.lemmas.Iterator.Search.{any_from_yields_List}
+use Rattle.planning.specs.Columns.{phi, zero_column}
+use Rattle.rounds.proofs.Places.{busy_ranged}
 use Rattle.rounds.proofs.is_busy.Goals as goal
-
-pub returns-then-not-is_zero : goal.returns-then-not-is_zero
-returns-then-not-is_zero c =
-    let a = c.args in
-    busy_yes a.m a.n a.cols.now (omega arith) c.loop-j.j (search rules)
-    (ap not (sym c.is_zero.ensures ∙ c.if-not-is_zero.true))
 
 pub returns : goal.returns
 returns c =
-    let a = c.args in
-    busy_no a.m a.n a.cols.now (omega arith) (λ j h. c.loop-j.invariant.1 j (omega arith))
+    any_from_yields_List (λ j. not (zero_column (phi c.args.m c.args.columns.now) j)) _ _ _ c.any.ensures.ran
+    (YieldsList-from_range 0 c.args.m c.args.m refl (omega arith)) (λ x b q k. search (rules, tests))
+    ∙ busy_ranged c.args.m c.args.columns.now

@@ -9,4 +9,4 @@ use Rattle.rounds.proofs.is_zero.Goals as goal
 pub returns : goal.returns
 returns c =
     let a = c.args in
-    zero_column_lem a.m a.cols.now a.j (get_or a.cols.now a.j 0 / 2 ^ a.m) (search rules) refl
+    zero_column_lem a.m a.columns.now a.j (get_or a.columns.now a.j 0 / 2 ^ a.m) (search rules) refl

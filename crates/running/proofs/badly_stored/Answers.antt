@@ -1,54 +1,21 @@
--- `running::badly_stored` meets its contract: the four questions, one by one. Assumes nothing.
+-- `running::badly_stored` meets its contract: stray bits, then places meant to be zero. Assumes nothing.
 use mathlib.Core.Path.{sym, ◌∙◌}
-use native.Mathlib.Omega.{arith}
-use Rattle.totals.proofs.Total.{size_allowed, size_few}
-use Rattle.running.proofs.Judging.{stray_rows_asked, stray_complements_asked, spare_rows_asked, spare_complements_asked}
+use mathlib.Core.Bool.{◌||◌}
+use Rattle.std.proofs.Math.Bool.{or_assoc}
+use Rattle.planning.specs.Running.{spare_complement, spare_row, stray_complement, stray_row}
+use Rattle.running.proofs.Judging.{or_then, or_else}
 use Rattle.running.proofs.badly_stored.Goals as goal
 
-pub power-size-requires : goal.power-size-requires
-power-size-requires c = omega (arith, (size_allowed _ c.requires).n_high)
-
-pub stray_rows-requires : goal.stray_rows-requires
-stray_rows-requires c = let inside = c.requires in (size_few _ inside, (size_allowed _ inside).n_high)
-
-pub returns-then-stray_rows : goal.returns-then-stray_rows
-returns-then-stray_rows c =
-    let size = c.power-size in
+pub returns-then-has_stray : goal.returns-then-has_stray
+returns-then-has_stray c =
     let plan = c.args.plan in
-    sym (rw (stray_rows_asked plan size.result size.ensures ∙ sym c.stray_rows.ensures ∙ c.if-stray_rows.true))
+    let stray = c.has_stray.ensures in
+    or_then (stray_row plan || stray_complement plan) (spare_row plan || spare_complement plan) (sym stray ∙ c.if-has_stray.true) stray
+    ∙ sym (or_assoc (stray_row plan || stray_complement plan) (spare_row plan) (spare_complement plan))
 
-pub stray_complements-requires : goal.stray_complements-requires
-stray_complements-requires c = size_few _ c.requires
-
-pub returns-then-stray_complements : goal.returns-then-stray_complements
-returns-then-stray_complements c =
-    let size = c.power-size in
+pub returns-else-has_stray : goal.returns-else-has_stray
+returns-else-has_stray c =
     let plan = c.args.plan in
-    sym (rw (
-      stray_rows_asked plan size.result size.ensures ∙ sym c.stray_rows.ensures ∙ c.if-stray_rows.false,
-      stray_complements_asked plan size.result size.ensures ∙ sym c.stray_complements.ensures ∙ c.if-stray_complements.true,
-    ))
-
-pub returns-then-spare_rows : goal.returns-then-spare_rows
-returns-then-spare_rows c =
-    let size = c.power-size in
-    let plan = c.args.plan in
-    sym (rw (
-      stray_rows_asked plan size.result size.ensures ∙ sym c.stray_rows.ensures ∙ c.if-stray_rows.false,
-      stray_complements_asked plan size.result size.ensures ∙ sym c.stray_complements.ensures ∙ c.if-stray_complements.false,
-      spare_rows_asked plan ∙ sym c.spare_rows.ensures ∙ c.if-spare_rows.true,
-    ))
-
-pub spare_complements-requires : goal.spare_complements-requires
-spare_complements-requires c =
-    size_few _ c.requires
-
-pub returns : goal.returns
-returns c =
-    let size = c.power-size in
-    let plan = c.args.plan in
-    sym (rw (
-      stray_rows_asked plan size.result size.ensures ∙ sym c.stray_rows.ensures ∙ c.if-stray_rows.false,
-      stray_complements_asked plan size.result size.ensures ∙ sym c.stray_complements.ensures ∙ c.if-stray_complements.false,
-      spare_rows_asked plan ∙ sym c.spare_rows.ensures ∙ c.if-spare_rows.false,
-    ) (spare_complements_asked plan ∙ sym c.spare_complements.ensures))
+    or_else (stray_row plan || stray_complement plan) (spare_row plan || spare_complement plan)
+    (sym c.has_stray.ensures ∙ c.if-has_stray.false) c.has_spare.ensures
+    ∙ sym (or_assoc (stray_row plan || stray_complement plan) (spare_row plan) (spare_complement plan))

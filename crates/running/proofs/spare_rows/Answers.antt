@@ -1,30 +1,31 @@
 -- `running::spare_rows` meets its contract: a search that passed only places that hold what they may. Assumes nothing.
 use mathlib.Core.Path.{◌≡◌, sym, ◌∙◌}
-use mathlib.Core.Bool.{false}
-use Prim.Native.Nat.{◌*◌}
+use mathlib.Core.Bool.{true}
+use Prim.Native.Nat.{◌*◌, ◌/◌}
 use native.Mathlib.Omega.{arith}
-use borrow.Author.Count.{below_more}
+use borrow.Author.Rules.{rules}
+use borrow.Author.Tests.{le-leb, lt-leb, ne_eqb}
+use lib.ListN.{get_or, length}
 use Rattle.bank.specs.Limits.{ROWS, PASSES}
 use Rattle.algebra.proofs.Search.{any_intro, none_intro}
 use Rattle.running.proofs.spare_rows.Invariants.{test}
 use Rattle.running.proofs.spare_rows.Goals as goal
+use Rattle.running.proofs.spare_rows.Goals.{then-count-q, else-count-q}
 
-pub loop-q-init : goal.loop-q-init
-loop-q-init c = (omega arith, λ k h. absurd (omega arith))
-
-pub returns-then-misplaced : goal.returns-then-misplaced
-returns-then-misplaced c =
+pub returns-then-n-q : goal.returns-then-n-q
+returns-then-n-q c =
     let a = c.args in
     let q = c.loop-q.q in
-    sym (any_intro (test a.rows.now a.count a.n) (PASSES * ROWS) q (omega arith) (sym c.misplaced.ensures ∙ c.if-misplaced.true))
-
-pub loop-q-preserved : goal.loop-q-preserved
-loop-q-preserved c =
-    let a = c.args in
-    let l = c.loop-q in
-    (omega arith, below_more (λ k. test a.rows.now a.count a.n k ≡ false) l.q l.invariant.1 (sym c.misplaced.ensures ∙ c.if-misplaced.false))
+    let set = ne_eqb (get_or a.rows.now q 0) 0 c.if-row-ne0.true in
+    let here : test a.rows.now a.count a.n q ≡ true =
+    elim c.if-count-q.branch [
+      | then-count-q w ↦ rw (le-leb a.count (q / ROWS) w.if-count-q.true, set)
+      | else-count-q w ↦ rw (lt-leb a.count (q / ROWS) w.if-count-q.false, sym w.value-is ∙ c.if-n-q.true, set)
+    ] in
+    sym (any_intro (test a.rows.now a.count a.n) (PASSES * ROWS) q c.loop-q-test.true here)
 
 pub returns : goal.returns
 returns c =
     let a = c.args in
-    sym (none_intro (test a.rows.now a.count a.n) (PASSES * ROWS) (λ k h. c.loop-q.invariant.1 k (omega arith)))
+    let room : length a.rows.now ≡ PASSES * ROWS = search rules in
+    sym (none_intro (test a.rows.now a.count a.n) (PASSES * ROWS) (λ k h. c.loop-q.invariant k (omega arith)))

@@ -3,9 +3,5 @@ use mathlib.Core.Path.{sym, ◌∙◌}
 use Rattle.totals.proofs.Total.{size_asked}
 use Rattle.totals.proofs.size_in_limits.Goals as goal
 
-pub returns-then-not-in_limits : goal.returns-then-not-in_limits
-returns-then-not-in_limits c = sym (rw (sym c.in_limits.ensures ∙ c.if-not-in_limits.true))
-
-pub returns : goal.returns
-returns c =
-    sym (size_asked c.args.plan (sym c.in_limits.ensures ∙ c.if-not-in_limits.false))
+pub returns-then-in_limits : goal.returns-then-in_limits
+returns-then-in_limits c = sym (size_asked c.args.plan (sym c.in_limits.ensures ∙ c.if-in_limits.true))

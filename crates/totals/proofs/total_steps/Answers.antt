@@ -56,8 +56,8 @@ overflow_mul-result-3 c =
     let inside = sym c.size_in_limits.ensures ∙ c.if-not-size_in_limits.false in
     let few : phases.result ≤ 4 = omega (arith, phases.ensures, few_phases (route_of plan)) in
     let small : size.result ≤ 2 ^ ROWS = omega (arith, records_small plan.geometry (size_allowed plan inside), size.ensures) in
-    let count : c.wide.result ≤ PASSES = omega (arith, size_few plan inside, c.wide.ensures) in
-    omega (arith, total_small phases.result size.result part c.wide.result few small count)
+    let count : c.from.result ≤ PASSES = omega (arith, size_few plan inside, c.from.ensures) in
+    omega (arith, total_small phases.result size.result part c.from.result few small count)
 
 pub returns : goal.returns
 returns c =
@@ -66,4 +66,4 @@ returns c =
     let block = c.power-block in
     let drives = c.power-drives in
     total_from c.args.plan (sym c.size_in_limits.ensures ∙ c.if-not-size_in_limits.false) phases.result size.result
-    block.result drives.result c.wide.result phases.ensures size.ensures block.ensures drives.ensures c.wide.ensures
+    block.result drives.result c.from.result phases.ensures size.ensures block.ensures drives.ensures c.from.ensures

@@ -20,19 +20,17 @@ unfolding column_of
 loop-j-preserved c =
     let s = c.args in
     let l = c.loop-j in
-    let long = columns_of_length s.list.now s.n in (
-      omega arith,
-      filled_next ROWS (columns_of s.list.now s.n) (omega arith) l.j _ l.cols (omega arith) l.invariant.1
-          (ap₂ (λ (at size : ℕ). bit_xor (get_or s.list.now at 0) (get_or s.list.now 0 0) % size) c.power-at.ensures
-          c.power-size.ensures ∙ sym (columns_of_at s.list.now s.n l.j (omega arith))),
-    )
+    let long = columns_of_length s.list.now s.n in
+    filled_next ROWS (columns_of s.list.now s.n) (omega arith) l.j _ l.cols (omega arith) l.invariant
+    (ap₂ (λ (at size : ℕ). bit_xor (get_or s.list.now at 0) (get_or s.list.now 0 0) % size) c.power-at.ensures
+    c.power-size.ensures ∙ sym (columns_of_at s.list.now s.n l.j (omega arith)))
 
 pub returns : goal.returns
 returns c =
     let s = c.args in
     let l = c.loop-j in
     let long = columns_of_length s.list.now s.n in
-    filled_all ROWS (columns_of s.list.now s.n) (omega arith) s.n l.j l.cols long (omega arith) l.invariant.1
+    filled_all ROWS (columns_of s.list.now s.n) (omega arith) s.n l.j l.cols long (omega arith) l.invariant
 
 pub bounds-list-at : goal.bounds-list-at
 bounds-list-at c = entry_there _ _ c.loop-j.j _ c.power-at.ensures c.requires.1 (omega arith)

@@ -1,17 +1,20 @@
 -- `matrix::carry::flip` meets its contract: what is summed up, and what the columns ahead still change, is the whole change. Assumes nothing.
 use mathlib.Core.Path.{sym, ◌∙◌}
-use Rattle.algebra.proofs.Carry.{walk_stop, walk_on, walk_end}
+use native.Mathlib.Omega.{arith}
+use Rattle.algebra.proofs.Carry.{walk_end, walk_on, walk_stop}
 use Rattle.matrix.proofs.carry.flip.Goals as goal
 
-pub returns-then-x-eq0 : goal.returns-then-x-eq0
-returns-then-x-eq0 c =
-    let l = c.loop-j in
-    walk_stop c.args.columns.now l.s l.x l.j c.loop-j-test.true c.if-x-eq0.true ∙ l.invariant
+pub returns-then-left-eq0 : goal.returns-then-left-eq0
+returns-then-left-eq0 c =
+    let l = c.loop-column in
+    walk_stop c.args.columns.now l.sum l.left l.column-index (omega arith) c.if-left-eq0.true ∙ l.invariant
 
-pub loop-j-preserved : goal.loop-j-preserved
-loop-j-preserved c =
-    let l = c.loop-j in
-    walk_on c.args.columns.now l.s l.x l.j c.loop-j-test.true c.if-x-eq0.false ∙ l.invariant
+pub loop-column-preserved : goal.loop-column-preserved
+loop-column-preserved c =
+    let l = c.loop-column in
+    walk_on c.args.columns.now l.sum l.left l.column-index (omega arith) c.if-left-eq0.false ∙ l.invariant
 
 pub returns : goal.returns
-returns c = sym (walk_end _ _ c.loop-j.x _ c.loop-j-test.false) ∙ c.loop-j.invariant
+returns c =
+    let l = c.loop-column in
+    sym (walk_end c.args.columns.now l.sum l.left l.column-index (omega arith)) ∙ l.invariant

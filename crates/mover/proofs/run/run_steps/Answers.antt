@@ -1,104 +1,80 @@
 -- `mover::run::run_steps` meets its contract: the steps done so far, and those up to the end of a pass, are the next ones. Assumes nothing.
-use mathlib.Core.Path.{◌≡◌, ap, refl, subst, ◌∙◌}
+use mathlib.Core.Path.{ap, subst, ◌∙◌}
 use Prim.Native.Nat.{ℕ, ◌+◌, ◌/◌, ◌%◌, ◌<◌, ◌≤◌, zero-le}
-use native.Mathlib.Nat.{mod-lt}
 use native.Mathlib.Omega.{arith}
-use Rattle.moving.specs.Step.{buffers_of, move}
-use Rattle.planning.specs.Pass.{pass_steps, total}
-use Rattle.planning.specs.Stored.{route_of}
-use Rattle.blocks.proofs.Plans.{pass_once, plan_moves, plan_total, quotient_in, steps_pos}
-use Rattle.tables.proofs.Plans.{plan_inside}
-use Rattle.tables.specs.declared.pace.Pace.{Pace}
-use Rattle.moving.proofs.Moves.{moves_none}
+use Rattle.blocks.proofs.Plans.{pass_once, plan_moves, plan_total}
+use Rattle.mover.proofs.Passes.{each_is, each_pos, left_lt, pass_here}
 use Rattle.moving.proofs.Fits.{as_long_fit}
+use Rattle.moving.proofs.Moves.{moves_none}
+use Rattle.mover.proofs.Same.{same_after, same_self}
+use Rattle.mover.specs.Lent.{bytes_in}
+use Rattle.moving.specs.Step.{move}
+use Rattle.planning.specs.Pass.{total}
+use Rattle.planning.specs.Stored.{route_of}
+use Rattle.tables.proofs.Plans.{plan_inside}
 use Rattle.mover.proofs.run.run_steps.Goals as goal
+
+pub of-each-requires : goal.of-each-requires
+of-each-requires c = plan_inside c.args.plan c.requires.runs
 
 pub loop-done-init : goal.loop-done-init
 loop-done-init c =
     let x = c.args in
-    (zero-le, refl, refl, refl, moves_none (move (route_of x.plan)) x.first.0 (buffers_of x.area0.now x.area1.now x.memory.now))
+    record {
+      some = zero-le;
+      same = same_self x.lent.now;
+      moved = moves_none (move (route_of x.plan)) x.first.0 (bytes_in x.lent.now);
+    }
 
 pub overflow_add-s : goal.overflow_add-s
-overflow_add-s c =
+overflow_add-s c = omega (arith, c.requires.in_total, c.loop-done-test.true, plan_total c.args.plan c.requires.runs)
+
+pub nonzero_rem-s : goal.nonzero_rem-s
+nonzero_rem-s c = each_pos c.args.plan c.requires.runs c.of-each.ensures
+
+pub overflow_sub-each : goal.overflow_sub-each
+overflow_sub-each c = omega (arith, left_lt c.args.plan c.requires.runs c.of-each.ensures (c.args.first.0 + c.loop-done.done))
+
+pub nonzero_div-s : goal.nonzero_div-s
+nonzero_div-s c = each_pos c.args.plan c.requires.runs c.of-each.ensures
+
+pub of-t-requires : goal.of-t-requires
+of-t-requires c =
     let x = c.args in
-    let s = x.first.0 + c.loop-done.done in
-    let here : s < total (route_of x.plan) = omega (arith, c.requires.in_total, c.loop-done-test.true) in
-    omega (arith, here, plan_total x.plan c.requires.runs)
+    (c.requires.runs, pass_here x.plan c.requires.runs c.of-each.ensures (x.first.0 + c.loop-done.done) (omega (arith, c.requires.in_total, c.loop-done-test.true)))
 
 pub run_pass-requires : goal.run_pass-requires
 run_pass-requires c =
     let x = c.args in
-    let each = c.pace_of-each.result.pass in
-    let each_is : each ≡ pass_steps (route_of x.plan) = ap (λ (p : Pace). p.pass) c.pace_of-each.ensures in
-    let s = x.first.0 + c.loop-done.done in
-    let here : s < total (route_of x.plan) = omega (arith, c.requires.in_total, c.loop-done-test.true) in
-    let pass_here : s / each < x.plan.count = quotient_in x.plan c.requires.runs s each each_is here in
     let l = c.loop-done in
-    let now = buffers_of l.area0 l.area1 l.memory in
-    let inv = l.invariant in
-    let fit = as_long_fit x.plan.geometry (buffers_of x.area0.now x.area1.now x.memory.now) now c.requires.fitting inv.1 inv.2 inv.3 in (
-      rw c.tables_of-t.ensures (plan_moves x.plan c.requires.runs (s / each) pass_here now fit),
-      omega (arith, c.least-k.ensures, here, c.requires.in_total, plan_total x.plan c.requires.runs),
+    let s = x.first.0 + l.done in
+    let here : s < total (route_of x.plan) = omega (arith, c.requires.in_total, c.loop-done-test.true) in
+    let now = bytes_in l.lent in
+    let same = l.invariant.same in
+    let fit = as_long_fit x.plan.geometry (bytes_in x.lent.now) now c.requires.fitting same.area0_long same.area1_long same.memory_long in (
+      rw c.of-t.ensures (plan_moves x.plan c.requires.runs (s / c.of-each.result.pass) (pass_here x.plan c.requires.runs c.of-each.ensures s here) now fit),
+      omega (arith, c.min-k.ensures, here, c.requires.in_total, plan_total x.plan c.requires.runs),
     )
 
 pub loop-done-smaller : goal.loop-done-smaller
 loop-done-smaller c =
-    let x = c.args in
-    let each = c.pace_of-each.result.pass in
-    let each_is : each ≡ pass_steps (route_of x.plan) = ap (λ (p : Pace). p.pass) c.pace_of-each.ensures in
-    let s = x.first.0 + c.loop-done.done in
-    let some : 0 < each = rw each_is (steps_pos x.plan c.requires.runs) in
-    let left : s % each < each = mod-lt s some in
-    omega (arith, c.least-k.ensures, c.loop-done-test.true, left)
+    let left = left_lt c.args.plan c.requires.runs c.of-each.ensures (c.args.first.0 + c.loop-done.done) in
+    omega (arith, c.min-k.ensures, c.loop-done-test.true, left)
 
 pub loop-done-preserved : goal.loop-done-preserved
 loop-done-preserved c =
     let x = c.args in
-    let each = c.pace_of-each.result.pass in
-    let each_is : each ≡ pass_steps (route_of x.plan) = ap (λ (p : Pace). p.pass) c.pace_of-each.ensures in
-    let s = x.first.0 + c.loop-done.done in
-    let some : 0 < each = rw each_is (steps_pos x.plan c.requires.runs) in
+    let l = c.loop-done in
+    let n = c.min-k in
+    let s = x.first.0 + l.done in
+    let each = each_is x.plan c.requires.runs c.of-each.ensures in
     let here : s < total (route_of x.plan) = omega (arith, c.requires.in_total, c.loop-done-test.true) in
-    let pass_here : s / each < x.plan.count = quotient_in x.plan c.requires.runs s each each_is here in
-    let left : s % each < each = mod-lt s some in
-    let inv = c.loop-done.invariant in
-    let n = c.least-k in
-    let kept = c.run_pass.auto in (
-      omega (arith, n.ensures, c.loop-done-test.true),
-      kept.area0 ∙ inv.1,
-      kept.area1 ∙ inv.2,
-      kept.memory ∙ inv.3,
-      c.run_pass.ensures
-          ∙ pass_once x.plan c.requires.runs x.first.0 c.loop-done.done n.result (s / each) (buffers_of x.area0.now x.area1.now x.memory.now)
-          pass_here c.tables_of-t.ensures (ap (λ (k : ℕ). s / k) each_is)
-          (subst (λ (k : ℕ). s % k + n.result ≤ k) each_is (omega (arith, n.ensures, left))) inv.4,
-    )
-
-pub pace_of-each-requires : goal.pace_of-each-requires
-pace_of-each-requires c = plan_inside c.args.plan c.requires.runs
-
-pub nonzero_rem-s : goal.nonzero_rem-s
-nonzero_rem-s c = rw c.pace_of-each.ensures (steps_pos c.args.plan c.requires.runs)
-
-pub overflow_sub-each : goal.overflow_sub-each
-overflow_sub-each c =
-    let x = c.args in
-    let each = c.pace_of-each.result.pass in
-    let each_is : each ≡ pass_steps (route_of x.plan) = ap (λ (p : Pace). p.pass) c.pace_of-each.ensures in
-    let s = x.first.0 + c.loop-done.done in
-    let some : 0 < each = rw each_is (steps_pos x.plan c.requires.runs) in
-    let left : s % each < each = mod-lt s some in
-    omega (arith, left)
-
-pub nonzero_div-s : goal.nonzero_div-s
-nonzero_div-s c = rw c.pace_of-each.ensures (steps_pos c.args.plan c.requires.runs)
-
-pub tables_of-t-requires : goal.tables_of-t-requires
-tables_of-t-requires c =
-    let x = c.args in
-    let each = c.pace_of-each.result.pass in
-    let each_is : each ≡ pass_steps (route_of x.plan) = ap (λ (p : Pace). p.pass) c.pace_of-each.ensures in
-    let s = x.first.0 + c.loop-done.done in
-    let here : s < total (route_of x.plan) = omega (arith, c.requires.in_total, c.loop-done-test.true) in
-    let pass_here : s / each < x.plan.count = quotient_in x.plan c.requires.runs s each each_is here in
-    (c.requires.runs, pass_here)
+    let left = left_lt x.plan c.requires.runs c.of-each.ensures s in
+    record {
+      some = omega (arith, n.ensures, c.loop-done-test.true);
+      same = same_after l.invariant.same c.run_pass.ensures.same;
+      moved = c.run_pass.ensures.moved
+          ∙ pass_once x.plan c.requires.runs x.first.0 l.done n.result (s / c.of-each.result.pass) (bytes_in x.lent.now)
+          (pass_here x.plan c.requires.runs c.of-each.ensures s here) c.of-t.ensures (ap (λ (k : ℕ). s / k) each)
+          (subst (λ (k : ℕ). s % k + n.result ≤ k) each (omega (arith, n.ensures, left))) l.invariant.moved;
+    }

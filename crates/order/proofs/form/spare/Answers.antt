@@ -1,21 +1,22 @@
--- `order::form::spare` meets its contract: a search that passed only zeros, from n on. Assumes nothing.
-use mathlib.Core.Path.{sym}
-use mathlib.Core.Bool.{not, ◌&&◌}
+-- `order::form::spare` meets its contract: the chain tests every number from n on. Assumes nothing.
+use mathlib.Core.Path.{◌∙◌}
+use mathlib.Core.Bool.{not}
+use Prim.Native.Nat.{ℕ}
 use native.Mathlib.Omega.{arith}
-use borrow.Author.Tests.{le-leb, ne_eqb}
-use lib.Dec.{eqb, leb}
-use lib.ListN.{get_or, length}
-use Rattle.algebra.proofs.Search.{any_intro, none_intro}
+use borrow.Author.Rules.{rules}
+use borrow.Author.Tests.{tests}
+use lib.Dec.{eqb}
+use lib.ListN.{drop, length-drop}
+use lib.Seq.{take_all}
+use Rattle.std.proofs.lemmas.Iterator.{YieldsList-from_slice}
+use Rattle.std.proofs.lemmas.Iterator.Search.{any_from_yields_List}
+use Rattle.order.proofs.Passing.{list_any_from}
 use Rattle.order.proofs.form.spare.Goals as goal
-
-pub returns-then-rows-i-ne0 : goal.returns-then-rows-i-ne0
-returns-then-rows-i-ne0 c =
-    let a = c.args in
-    let i = c.loop-i.i in
-    sym (any_intro (λ i. leb a.n i && not (eqb (get_or a.rows.now i 0) 0)) (length a.rows.now) i (omega arith)
-    (rw (le-leb a.n i (omega arith), ne_eqb _ _ c.if-rows-i-ne0.true)))
 
 pub returns : goal.returns
 returns c =
-    let a = c.args in
-    sym (none_intro (λ i. leb a.n i && not (eqb (get_or a.rows.now i 0) 0)) (length a.rows.now) (λ k h. c.loop-i.invariant.2 k (omega arith)))
+    let n = c.args.n in
+    let xs = c.args.rows.now in
+    let test = λ (x : ℕ). not (eqb x 0) in
+    any_from_yields_List test _ _ c.any.result c.any.ensures.ran (YieldsList-from_slice (drop n xs) (c.iter.ensures.rest ∙ take_all _ (drop n xs) (omega (arith, length-drop n xs)))) (λ x b q k. search (rules, tests))
+    ∙ list_any_from test n xs

@@ -1,20 +1,15 @@
--- `order::form::stray` meets its contract: a search that passed only rows below the size. Assumes nothing.
-use mathlib.Core.Path.{sym}
-use native.Mathlib.Omega.{arith}
-use borrow.Author.Tests.{le-leb}
+-- `order::form::stray` meets its contract: the chain tests every number. Assumes nothing.
+use mathlib.Core.Path.{◌∙◌}
+use borrow.Author.Rules.{rules}
+use borrow.Author.Tests.{tests}
 use lib.Dec.{leb}
-use lib.ListN.{get_or}
-use Rattle.algebra.proofs.Search.{any_intro, none_intro}
+use Rattle.std.proofs.lemmas.Iterator.{YieldsList-from_slice}
+use Rattle.std.proofs.lemmas.Iterator.Search.{any_from_yields_List}
+use Rattle.order.proofs.Passing.{list_any_below}
 use Rattle.order.proofs.form.stray.Goals as goal
-
-pub returns-then-size-wide : goal.returns-then-size-wide
-returns-then-size-wide c =
-    let a = c.args in
-    let i = c.loop-i.i in
-    sym (any_intro (λ i. leb a.size (get_or a.rows.now i 0)) a.n i (omega arith)
-    (le-leb a.size (get_or a.rows.now i 0) (omega (arith, c.wide.ensures))))
 
 pub returns : goal.returns
 returns c =
-    let a = c.args in
-    sym (none_intro (λ i. leb a.size (get_or a.rows.now i 0)) a.n (λ k h. c.loop-i.invariant.1 k (omega arith)))
+    let xs = c.args.rows.now in
+    any_from_yields_List (leb c.args.size) _ _ c.any.result c.any.ensures.ran (YieldsList-from_slice xs cc) (λ x b q k. search (rules, tests))
+    ∙ list_any_below (leb c.args.size) xs

@@ -1,5 +1,7 @@
 -- `planner::marks::bare` meets its contract: each return is one case of the definition. Assumes nothing.
+use mathlib.Core.Logic.{⊎_elim}
 use mathlib.Core.Path.{ap, sym}
+use Prim.Native.Nat.{◌<◌, ◌≤◌}
 use native.Mathlib.Omega.{arith}
 use Rattle.algebra.specs.Matrix.{one_if}
 use Rattle.planner.proofs.Masks.{bare_high, bare_low, bare_one}
@@ -8,12 +10,10 @@ use Rattle.planner.proofs.marks.bare.Goals as goal
 pub returns-then-j-from : goal.returns-then-j-from
 returns-then-j-from c =
     let a = c.args in
-    sym (ap one_if (bare_low a.set a.from a.to a.j (omega arith)))
-
-pub returns-then-to-j : goal.returns-then-to-j
-returns-then-to-j c =
-    let a = c.args in
-    sym (ap one_if (bare_high a.set a.from a.to a.j (omega arith) (omega arith)))
+    sym
+    (ap one_if
+    (⊎_elim (λ (h : a.j < a.from). bare_low a.set a.from a.to a.j h) (λ (h : (a.from ≤ a.j) × (a.to ≤ a.j)). bare_high a.set a.from a.to a.j h.0 h.1)
+    c.then-j-from.either))
 
 pub returns : goal.returns
 returns c =

@@ -18,30 +18,23 @@ use Rattle.planner.proofs.marks.marks.Goals as goal
 
 pub loop-j-init : goal.loop-j-init
 unfolding built mask_of
-loop-j-init c = (search rules, c.no_entries-e.ensures, refl)
+loop-j-init c = (c.new-entries.ensures, refl)
 
-pub reduce-r-requires : goal.reduce-r-requires
-reduce-r-requires c =
+pub grow-requires : goal.grow-requires
+grow-requires c =
     let l = c.loop-j in
-    let few = built_count ROWS c.args.cols l.j (echelon_of l.e) l.invariant.1 in
-    omega arith
-
-pub grow-e-requires : goal.grow-e-requires
-grow-e-requires c =
-    let l = c.loop-j in
-    let few = built_count ROWS c.args.cols l.j (echelon_of l.e) l.invariant.1 in
+    let few = built_count ROWS c.args.columns.now l.j (echelon_of l.entries) l.invariant.0 in
     (omega arith, search rules)
 
 pub loop-j-preserved : goal.loop-j-preserved
 loop-j-preserved c =
     let l = c.loop-j in
-    let cols = c.args.cols in
+    let cols = c.args.columns.now in
     let fits : (i : ℕ) → get_or cols i 0 < 2 ^ WORD = λ i. search rules in
-    let r = c.reduce-r in
-    let e = echelon_of l.e in
-    let same = left_marked ROWS cols WORD (search rules) fits l.j (omega arith) e l.invariant.1 r.result.left r.ensures.0 (2 ^ l.j) in (
-      search rules,
-      built_next ROWS cols l.j e (echelon_of c.grow-e.result) l.invariant.1 c.grow-e.ensures,
-      ap₂ bit_xor l.invariant.2 (c.unless_zero-set.ensures ∙ ap (unless_zero r.result.left) c.power.ensures)
+    let r = c.reduce-left in
+    let e = echelon_of l.entries in
+    let same = left_marked ROWS cols WORD (search rules) fits l.j (omega arith) e l.invariant.0 r.result.left r.ensures.left (2 ^ l.j) in (
+      built_next ROWS cols l.j e (echelon_of c.grow.new.self) l.invariant.0 c.grow.ensures,
+      ap₂ bit_xor l.invariant.1 (c.unless_zero-set.ensures ∙ ap (unless_zero r.result.left) c.power.ensures)
           ∙ mask_next (marked cols) l.j r.result.left same,
     )

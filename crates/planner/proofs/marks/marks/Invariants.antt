@@ -1,6 +1,5 @@
 -- `planner::marks::marks` meets its contract. The loop's invariant: the entries and the marks after j columns. Assumes nothing.
 use mathlib.Core.Path.{◌≡◌}
-use Prim.Native.Nat.{◌-◌, ◌≤◌}
 use Rattle.bank.specs.Limits.{ROWS}
 use Rattle.algebra.specs.Elimination.{built}
 use Rattle.algebra.specs.Matrix.{marked}
@@ -9,7 +8,4 @@ use Rattle.planner.specs.Marks.{mask_of}
 use Rattle.planner.proofs.marks.marks.Given as goal
 
 abbrev pub invariant-loop-j : goal.invariant-loop-j
-invariant-loop-j l = (l.j ≤ l.k) × (echelon_of l.e ≡ built ROWS l.cols l.j) × (l.set ≡ mask_of (marked l.cols) l.j)
-
-abbrev pub decreases-loop-j : goal.decreases-loop-j
-decreases-loop-j l = l.k - l.j
+invariant-loop-j l = (echelon_of l.entries ≡ built ROWS l.columns l.j) × (l.set ≡ mask_of (marked l.columns) l.j)

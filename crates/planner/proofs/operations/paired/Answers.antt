@@ -6,7 +6,6 @@ use native.Mathlib.Nat.{sub-zero}
 use native.Mathlib.Omega.{arith}
 use lib.Bits.{bit_xor}
 use lib.Pow.{shr_lt}
-use borrow.Author.Rules.{rules}
 use Rattle.bank.specs.Limits.{ROWS}
 use Rattle.algebra.specs.Search.{which}
 use Rattle.algebra.specs.Vector.{unless_zero}
@@ -24,7 +23,6 @@ pub loop-j-init : goal.loop-j-init
 loop-j-init c =
     let a = c.args in
     let whole : a.n ≡ a.m + (a.n - a.m) = omega arith in (
-      search rules,
       shr_lt a.m (a.n - a.m) (subst (λ (k : ℕ). a.set < 2 ^ k) whole c.requires.2),
       refl,
       λ i h. ap (λ (k : ℕ). partner (which (bare a.set a.m a.n) k 0) (places_of a.m (a.set / 2 ^ (a.n - a.m))) i) (sym (sub-zero a.n)),
@@ -40,13 +38,12 @@ loop-j-preserved c =
     let got : w ≡ gets (test l.j) l.left
     = c.unless_zero-w.ensures ∙ ap₂ unless_zero c.bare.ensures c.lowest_of.ensures in
     let below : l.j < a.n = omega arith in
-    let now = once_now test a.n a.m f l.j l.left w below l.invariant.1 (omega arith) l.invariant.3 got in
+    let now = once_now test a.n a.m f l.j l.left w below l.invariant.0 (omega arith) l.invariant.2 got in
     let column = adding_column f a.n l.j below in
     let long = adding-length f a.n in (
-      search rules,
-      once_small test a.n a.m f l.j l.left w below l.invariant.1 (omega arith) l.invariant.3 got,
-      filled_next ROWS (adding f a.n) (omega arith) l.j (bit_xor c.power.result w) l.out (omega arith) l.invariant.2 (cc),
-      once_later test a.n a.m f l.j l.left w below l.invariant.1 (omega arith) l.invariant.3 got,
+      once_small test a.n a.m f l.j l.left w below l.invariant.0 (omega arith) l.invariant.2 got,
+      filled_next ROWS (adding f a.n) (omega arith) l.j (bit_xor c.power.result w) l.out (omega arith) l.invariant.1 (cc),
+      once_later test a.n a.m f l.j l.left w below l.invariant.0 (omega arith) l.invariant.2 got,
     )
 
 pub returns : goal.returns
@@ -55,4 +52,4 @@ returns c =
     let l = c.loop-j in
     let f = share a.set a.n a.m in
     let long = adding-length f a.n in
-    filled_all ROWS (adding f a.n) (omega arith) a.n l.j l.out long (omega arith) l.invariant.2
+    filled_all ROWS (adding f a.n) (omega arith) a.n l.j l.out long (omega arith) l.invariant.1

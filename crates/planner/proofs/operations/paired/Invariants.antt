@@ -16,8 +16,5 @@ share set n m = partner (which (bare set m n) n 0) (places_of m (set / 2 ^ (n - 
 
 abbrev pub invariant-loop-j : goal.invariant-loop-j
 invariant-loop-j l =
-    (l.j ≤ l.n) × (l.left < 2 ^ l.m) × (l.out ≡ filled ROWS (adding (share l.set l.n l.m) l.n) l.j)
+    (l.left < 2 ^ l.m) × (l.out ≡ filled ROWS (adding (share l.set l.n l.m) l.n) l.j)
     × ((i : ℕ) → l.j ≤ i → share l.set l.n l.m i ≡ partner (which (bare l.set l.m l.n) (l.n - l.j) l.j) (places_of l.m l.left) i)
-
-abbrev pub decreases-loop-j : goal.decreases-loop-j
-decreases-loop-j l = l.n - l.j

@@ -2,27 +2,28 @@
 use Rattle.reading.specs.Parsing.{first_line_at}
 use Rattle.reading.proofs.number.first_line.Goals as goal
 
--- ---- the needs
-pub returns-in_default : goal.returns-in_default
+pub returns-in_err-n : goal.returns-in_err-n
 unfolding first_line_at
-returns-in_default c = rw (← c.in_default.ensures)
+returns-in_err-n c = rw (c.from_residual.ensures, ← c.in_err-n.ensures)
 
-pub returns-in_default-field : goal.returns-in_default-field
+pub returns-in_err-b : goal.returns-in_err-b
 unfolding first_line_at
-returns-in_default-field c = rw (← c.in-Value.ensures, ← c.in_default-field.ensures)
+returns-in_err-b c = rw (c.from_residual-in_err-b.ensures, ← c.in_ok-n.ensures, ← c.in_err-b.ensures)
 
-pub returns-in_default-field-2 : goal.returns-in_default-field-2
+pub returns-in_err-d : goal.returns-in_err-d
 unfolding first_line_at
-returns-in_default-field-2 c = rw (← c.in-Value.ensures, ← c.in-Value-field.ensures, ← c.in_default-field-2.ensures)
+returns-in_err-d c = rw (c.from_residual-in_err-d.ensures, ← c.in_ok-n.ensures, ← c.in_ok-b.ensures, ← c.in_err-d.ensures)
 
-pub returns-in_default-field-3 : goal.returns-in_default-field-3
+pub returns-in_err-m : goal.returns-in_err-m
 unfolding first_line_at
-returns-in_default-field-3 c = rw (← c.in-Value.ensures, ← c.in-Value-field.ensures, ← c.in-Value-field-2.ensures, ← c.in_default-field-3.ensures)
+returns-in_err-m c =
+    rw (c.from_residual-in_err-m.ensures, ← c.in_ok-n.ensures, ← c.in_ok-b.ensures, ← c.in_ok-d.ensures, ← c.in_err-m.ensures)
 
-pub returns-in_default-field-4 : goal.returns-in_default-field-4
+pub returns-in_err-r : goal.returns-in_err-r
 unfolding first_line_at
-returns-in_default-field-4 c = rw (← c.in-Value.ensures, ← c.in-Value-field.ensures, ← c.in-Value-field-2.ensures, ← c.in-Value-field-3.ensures, ← c.in_default-field-4.ensures)
+returns-in_err-r c =
+    rw (c.from_residual-in_err-r.ensures, ← c.in_ok-n.ensures, ← c.in_ok-b.ensures, ← c.in_ok-d.ensures, ← c.in_ok-m.ensures, ← c.in_err-r.ensures)
 
 pub returns : goal.returns
 unfolding first_line_at
-returns c = rw (← c.in-Value.ensures, ← c.in-Value-field.ensures, ← c.in-Value-field-2.ensures, ← c.in-Value-field-3.ensures, ← c.in-Value-field-4.ensures)
+returns c = rw (← c.in_ok-n.ensures, ← c.in_ok-b.ensures, ← c.in_ok-d.ensures, ← c.in_ok-m.ensures, ← c.in_ok-r.ensures)

@@ -2,13 +2,10 @@
 -- Assumes nothing.
 use mathlib.Core.Path.{◌≡◌}
 use mathlib.Core.List.{◌++◌}
-use Prim.Native.Nat.{◌+◌, ◌-◌, ◌^◌, ◌<◌, ◌≤◌}
+use Prim.Native.Nat.{◌+◌, ◌-◌, ◌^◌, ◌<◌}
 use lib.ListN.{drop}
 use Rattle.text.specs.Lines.{bits}
 use Rattle.reading.proofs.rows.row_at.Given as goal
 
 abbrev pub invariant-loop-i : goal.invariant-loop-i
-invariant-loop-i l = (l.i ≤ l.n) × (l.v < 2 ^ (l.n - l.i)) × (drop (l.at + l.i) l.text ≡ bits (l.n - l.i) l.v ++ drop (l.at + l.n) l.text)
-
-abbrev pub decreases-loop-i : goal.decreases-loop-i
-decreases-loop-i l = l.i
+invariant-loop-i l = (l.v < 2 ^ (l.n - l.i)) × (drop (l.at + l.i) l.text ≡ bits (l.n - l.i) l.v ++ drop (l.at + l.n) l.text)

@@ -6,28 +6,24 @@ use Rattle.stripes.proofs.stripe.blank_step.Goals as goal
 
 pub overflow_mul-at : goal.overflow_mul-at
 overflow_mul-at c =
-    record { fits = rw c.stripe_of-s.ensures (omega (arith, read_memory c.requires, c.well_formed)) }
-
-pub overflow_mul-o : goal.overflow_mul-o
-overflow_mul-o c =
-    record { fits = rw c.stripe_of-s.ensures (omega (arith, read_area c.requires, c.well_formed)) }
+    record { fits = rw c.of-s.ensures (omega (arith, read_memory c.requires, c.well_formed)) }
 
 pub overflow_mul-s : goal.overflow_mul-s
 overflow_mul-s c =
-    record { fits = rw c.stripe_of-s.ensures (omega (arith, read_memory c.requires, c.well_formed)) }
+    record { fits = rw c.of-s.ensures (omega (arith, read_memory c.requires, c.well_formed)) }
 
 pub clear_part-requires : goal.clear_part-requires
 clear_part-requires c =
-    rw c.stripe_of-s.ensures (read_memory c.requires)
+    rw c.of-s.ensures (read_memory c.requires)
 
-pub lay_drives-requires : goal.lay_drives-requires
-lay_drives-requires c =
+pub lay-requires : goal.lay-requires
+lay-requires c =
     let k = c.requires in
-    rw c.stripe_of-s.ensures (read_area k, omega (arith, read_memory k), size_pos k)
+    rw c.of-s.ensures (read_area k, omega (arith, read_memory k), size_pos k)
 
 pub returns : goal.returns
 returns c =
     let k = c.requires in (
-      c.lay_drives.ensures ∙ rw (c.clear_part.ensures, c.stripe_of-s.ensures) (area_blanked k),
-      c.clear_part.ensures ∙ rw c.stripe_of-s.ensures (memory_blanked k),
+      c.lay.ensures ∙ rw (c.clear_part.ensures, c.of-s.ensures) (area_blanked k),
+      c.clear_part.ensures ∙ rw c.of-s.ensures (memory_blanked k),
     )

@@ -8,4 +8,4 @@ use Rattle.stripes.proofs.stripe.lay_block.Goals as goal
 pub returns : goal.returns
 returns c =
     let x = c.args in
-    c.copy_part.ensures ∙ laid-lent x.dst.now x.src.now x.at x.size (x.block.0 * x.size) (omega arith)
+    c.copy_part.ensures ∙ laid-lent x.dst.now x.src.now (x.to.0 * x.size) x.size (x.from.0 * x.size) (omega arith)

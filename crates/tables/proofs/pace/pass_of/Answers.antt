@@ -8,8 +8,8 @@ use Rattle.tables.proofs.pace.pass_of.Goals as goal
 pub nonzero_div-result : goal.nonzero_div-result
 unfolding route_of
 nonzero_div-result c =
-    rw c.pace_of-pace.ensures (pass_pos (route_of c.args.plan) (limits→allowed c.args.plan.geometry c.requires))
+    rw c.of.ensures (pass_pos (route_of c.args.plan) (limits→allowed c.args.plan.geometry c.requires))
 
 pub returns : goal.returns
 unfolding pass_of
-returns c = rw c.pace_of-pace.ensures
+returns c = rw c.of.ensures

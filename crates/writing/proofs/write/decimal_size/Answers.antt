@@ -5,9 +5,6 @@ use lib.ListN.{length}
 use Rattle.text.proofs.Decimals.{decimal_one, decimal-length, decimal_longer}
 use Rattle.writing.proofs.write.decimal_size.Goals as goal
 
-pub loop-x-init : goal.loop-x-init
-loop-x-init c = (omega arith, omega arith)
-
 pub overflow_add-k : goal.overflow_add-k
 overflow_add-k c = let a = c.args in omega (arith, decimal-length a.v)
 

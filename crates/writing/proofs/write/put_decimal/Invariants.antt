@@ -2,8 +2,5 @@
 use Rattle.writing.proofs.Digits.{Partly}
 use Rattle.writing.proofs.write.put_decimal.Given as goal
 
-abbrev pub invariant-loop-x : goal.invariant-loop-x
-invariant-loop-x l = Partly l.initial.room l.at l.v l.room l.i l.x
-
-abbrev pub decreases-loop-x : goal.decreases-loop-x
-decreases-loop-x l = l.x
+abbrev pub invariant-loop-i : goal.invariant-loop-i
+invariant-loop-i l = Partly l.initial.room l.at l.v l.room l.i l.x
