@@ -1,4 +1,4 @@
-// What one elimination answers.
+// What one elimination answers. That there are at most ROWS rows stands in each clause, as in matrix.
 ghost use Rattle.std.specs.Prelude.{◌≡◌, false, ◌++◌, ◌<◌, ◌≤◌, ◌-◌, ◌^◌, length, replicate};
 ghost use Rattle.bank.specs.Limits;
 ghost use Rattle.algebra.specs.Matrix.{kernel, singular, inverse, columns, spills};

@@ -1,4 +1,4 @@
-// Listings of plans are written, on slices.
+// Listings of plans are written, on slices. Room and place come one by one, as in writing.
 #![tactic(auto)]
 
 mod sound; // sound.rt: a plan that can run

@@ -54,7 +54,7 @@ fn run_steps(plan: Plan, first: Step, count: u64, lent: &mut Lent)
     }
 }
 
-// The next steps, as many as are allowed and left; or a refusal, which changes nothing.
+// The next steps, as many as are allowed and left; or a refusal, which changes nothing. A call lends its buffers one by one; inside they are `Lent`.
 pub fn run(
     plan: Plan,
     state: State,

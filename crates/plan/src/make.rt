@@ -1,4 +1,4 @@
-// The plan for an order.
+// The plan for an order. Rows are lent as slices, and their limit stands in the clauses, as in matrix.
 ghost use Rattle.std.specs.Prelude.{◌≡◌, true, false, ◌&&◌, ◌++◌, ◌≤◌, ◌-◌, eqb, length, take, replicate};
 ghost use Rattle.bank.specs.Limits;
 ghost use Rattle.bank.specs.Geometry.{in_limits};

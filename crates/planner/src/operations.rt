@@ -1,4 +1,4 @@
-// Steps 1 and 2 of planning: P, and A P.
+// Steps 1 and 2 of planning: P, and A P. Columns and m come one by one, as the definitions take them, and the rows' limit stands in clauses, as in matrix.
 ghost use Rattle.std.specs.Prelude.{◌≡◌, ◌++◌, ◌<◌, ◌≤◌, ◌+◌, ◌-◌, ◌/◌, ◌^◌, length, replicate};
 ghost use Rattle.bank.specs.Limits;
 ghost use Rattle.algebra.specs.Matrix.{columns, after};

@@ -22,7 +22,7 @@ pub struct Rounded {
     pub cols: [u32; ROWS],
 }
 
-// Columns, b and m come one by one below, as `swaps` and `erases` (planning) take them.
+// Columns, b and m come one by one below, as `swaps` and `erases` (planning) take them, and the rows' limit stands in clauses, as in matrix.
 
 // Whether column j of φ is zero.
 fn is_zero(columns: &[u32], m: usize, j: usize) -> bool

@@ -31,7 +31,7 @@ fn any_pass<F: Fn(&[u32]) -> bool>(rows: &[u32; PLACES], count: usize, n: usize,
     false
 }
 
-// Whether a place for a row that is meant to be zero isn't: its pass isn't used, or its row is n or above.
+// Whether a place for a row that is meant to be zero isn't: its pass isn't used, or its row is n or above. The array is looked at whole.
 fn spare_rows(rows: &[u32; PLACES], count: usize, n: usize) -> bool
     ensures { result ≡ any_below (λ q. (leb count (q / Limits.ROWS) || leb n (q % Limits.ROWS)) && not (eqb (get_or rows.now q 0) 0)) (Limits.PASSES * Limits.ROWS) }
 {
@@ -42,6 +42,8 @@ fn spare_rows(rows: &[u32; PLACES], count: usize, n: usize) -> bool
     }
     false
 }
+
+// The four that follow take a plan whose size is inside the limits, which `is_sound` asks first: a type for it would be made for that one call.
 
 // Whether a bit is at n or above in a used row or complement.
 fn has_stray(plan: Plan) -> bool

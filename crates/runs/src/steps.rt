@@ -14,7 +14,7 @@ use totals::result_area;
 // More bytes than an area or the memory has.
 const LONG: usize = 136;
 
-// The plan of an order, where it blanks or doesn't.
+// The plan of an order, where it blanks or doesn't. One expression, so each program has its own.
 pub(crate) fn plan(o: Order, blanks: bool) -> Plan {
     make_plan(o, blanks).plan
 }

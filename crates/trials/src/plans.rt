@@ -37,7 +37,7 @@ pub(crate) fn runs(rt: &impl Print, asked: &str, p: Plan, next: u64) -> io::Resu
     say::line(rt, asked, &[u64::from(can_run(p, s))])
 }
 
-// The plan of an order, where it blanks or doesn't.
+// The plan of an order, where it blanks or doesn't. One expression, so each program has its own.
 pub(crate) fn plan(o: Order, blanks: bool) -> Plan {
     make_plan(o, blanks).plan
 }
