@@ -33,7 +33,7 @@ fn check_asked(order: Order, x: Address) -> Result<(), Refusal>
     Ok(())
 }
 
-// Where the order sends x: Ax xor c.
+// Where the order sends x: Ax xor c. A target is made of a refusal here alone, so a `From` would be no shorter.
 pub fn target_of(order: Order, x: Address) -> Target
     ensures { result ≡ target_of order x.0 }
 {

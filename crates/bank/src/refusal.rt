@@ -31,7 +31,7 @@ pub enum Refusal {
 }
 
 impl Refusal {
-    // The number that is given back.
+    // The number that is given back: at a call `number()` says what it is, and a `From` for u8 would not.
     pub fn number(self) -> u8
         ensures { result ≡ number_of self }
     {

@@ -83,6 +83,7 @@ fn take_entries(text: &[u8], room: &mut [u64]) -> Result<usize, Refusal>
     Ok(count)
 }
 
+// The list that a text is of. It is made of a refusal here alone, so a `From` would be no shorter.
 pub fn read_entries(text: &[u8], room: &mut [u64]) -> Entries
     ensures reads_list { ReadsList text.now room.old result.number result.count room.new }
     ensures count_in_bounds { result.count ≤ length room.new }

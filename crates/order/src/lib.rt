@@ -71,7 +71,7 @@ pub fn check(order: Order) -> Result<(), Refusal>
     }
 }
 
-// The judgement of an order: 1, 2, 3 or 0, the first that applies.
+// The judgement of an order: 1, 2, 3 or 0, the first that applies. It is made of a refusal here alone, so a `From` would be no shorter.
 pub fn judge(order: Order) -> Verdict
     ensures { result ≡ verdict order }
 {

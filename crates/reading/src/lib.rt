@@ -84,6 +84,7 @@ fn order_of(text: &[u8]) -> Result<Order, Refusal>
     Ok(order)
 }
 
+// What a text is read as. It is made of a refusal here alone, so a `From` would be no shorter.
 pub fn read_order(text: &[u8]) -> Read
     ensures { Reads text.now result.number result.order result.z.0 }
 {
