@@ -44,8 +44,9 @@ pub struct Step(pub u64);
 #[derive(Clone, Copy, Debug, PartialEq, Eq)]
 pub struct Block(pub u64);
 
-// Whether the geometry is inside the limits, one limit a line: as one `&&` each would stand inside the proof of the one before. No sum is taken that could wrap. Functions that ask it of a geometry take the one of a plan or an order,
-// of which it is known: a type for it would be made for one call each time.
+// Whether the geometry is inside the limits. No sum is taken that could wrap.
+// It is one limit a line: as one `&&`, each would stand inside the proof of the one before.
+// Functions that ask it of a geometry take that of a plan or an order, of which it is known: a type for it would be made for one call each time.
 pub fn in_limits(g: Geometry) -> bool
     ensures { result ≡ in_limits g }
 {

@@ -35,8 +35,8 @@ fn bytes_of(g: Geometry, k: u32) -> u64
     power(k) * u64::from(g.r)
 }
 
-// The buffers come one by one, as `deliver` is lent them. Every step of the order's plan is sent, and the result, where it lies in area 1, goes to area 0; where the spent area is to
-// be blanked, area 1 is spent then too. The order was judged when it was read.
+// Every step of the order's plan is sent, and the result, where it lies in area 1, goes to area 0; where the spent area is to
+// be blanked, area 1 is spent then too. The order was judged when it was read. The buffers come one by one, as `deliver` is lent them.
 fn set_in_order<R: Eprint>(
     rt: &R,
     order: Order,

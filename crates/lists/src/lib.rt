@@ -15,7 +15,8 @@ use bank::{Address, ROWS, power};
 use elimination::questions::kernel;
 use matrix::rows::columns;
 
-// The number; n, the rows of A and c, zero everywhere where refused, as `recognised` has it. With 3, the least nonzero address z that A sends to zero; 0 with every other number.
+// The number; n, the rows of A and c, zero everywhere where refused, as `recognised` has it.
+// With 3, the least nonzero address z that A sends to zero; 0 with every other number.
 #[derive(Clone, Copy)]
 pub struct Recognised {
     pub number: u8,

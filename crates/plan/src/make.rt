@@ -75,7 +75,8 @@ pub fn plan_for(g: Geometry, rows: [u32; ROWS], c: u32, blanks: bool) -> Plan
     plan_made(g, matrix, c, blanks)
 }
 
-// The plan for an order that is taken, which blanks the spent area or doesn't, and a number that says why where one isn't: made of a refusal here alone, so a `From` would be no shorter.
+// The plan for an order that is taken, which blanks the spent area or doesn't, and a number that says why where one isn't.
+// It is made of a refusal here alone, so a `From` would be no shorter.
 pub fn make_plan(order: Order, blanks: bool) -> Planned
     ensures { result ≡ planned_for order blanks }
 {
