@@ -6,12 +6,33 @@ pub mod look; // look.rt: is every byte zero?
 ghost use Rattle.std.specs.Prelude.{◌≡◌, ◌+◌, ◌≤◌, length, replicate};
 ghost use Rattle.moving.specs.Laid.{cleared, laid};
 
+// Below this the library's copy, which is a call, takes longer than the bytes one by one.
+const SHORT: usize = 16;
+
+// What one turn of the loop that the compiler makes of single bytes copies: of whole turns it is as quick as the library's copy,
+// and quicker where that would write across two cache lines.
+const TURN: usize = 32;
+
+// dst becomes src, which is as long, byte by byte.
+fn copy_bytes(dst: &mut [u8], src: &[u8])
+    requires { length dst.old ≡ length src.now }
+    ensures { dst.new ≡ src.now }
+{
+    for i in 0..src.len() {
+        dst[i] = src[i];
+    }
+}
+
 // dst becomes src, which is as long.
 pub fn copy_into(dst: &mut [u8], src: &[u8])
     requires { length dst.old ≡ length src.now }
     ensures { dst.new ≡ src.now }
 {
-    dst.copy_from_slice(src);
+    if src.len() < SHORT || src.len() % TURN == 0 {
+        copy_bytes(dst, src);
+    } else {
+        dst.copy_from_slice(src);
+    }
 }
 
 // dst with all of src from index at on.
