@@ -1,5 +1,6 @@
 // The second lesson: a matrix that looks busy and is singular.
 use crate::say;
+use crate::say::number;
 use bank::{Geometry, ROWS};
 use lessons::next_place;
 use matrix::rows::apply;
@@ -38,30 +39,27 @@ fn targets(rows: &[u32; ROWS]) -> [u8; 16] {
 
 // Says who would go to the slot.
 fn look<R: Print>(rt: &R, slots: &[u8; 16], slot: u8) -> io::Result<()> {
+    number(rt, "  slot ", slot)?;
     let first = next_place(slots, slot, 0);
     if 16 <= first {
-        return println!(rt; "  slot {slot}: no address goes there, and it keeps last week's key");
+        return println!(rt; ": no address goes there, and it keeps last week's key");
     }
     let second = next_place(slots, slot, first + 1);
+    number(rt, ": address ", first)?;
     if second < 16 {
-        return println!(rt;
-            "  slot {slot}: address {first} and address {second} share it, and one key is lost"
-        );
+        number(rt, " and address ", second)?;
+        print!(rt; " share it, and one key is lost")?;
     }
-    println!(rt; "  slot {slot}: address {first}")
+    println!(rt)
 }
 
 pub(crate) fn tell<R: Print>(rt: &R) -> io::Result<()> {
     let order = busy();
-    print!(rt;
-        "\nLesson 2: the busy matrix\n\n\
-        The same bank, and an order with ones all over. Column 0 comes first:\n"
-    )?;
+    println!(rt; "\nLesson 2: the busy matrix\n")?;
+    println!(rt; "The same bank, and an order with ones all over. Column 0 comes first:")?;
     say::rows(rt, &order.rows, 4)?;
-    print!(rt;
-        "No row is zero, and no two rows are the same. But row 0 xor row 1 is row 2.\n\
-        A mover that followed this order would do this:\n"
-    )?;
+    println!(rt; "No row is zero, and no two rows are the same. But row 0 xor row 1 is row 2.")?;
+    println!(rt; "A mover that followed this order would do this:")?;
     let slots = targets(&order.rows);
     for slot in 0..16 {
         look(rt, &slots, slot)?;
@@ -70,9 +68,11 @@ pub(crate) fn tell<R: Print>(rt: &R) -> io::Result<()> {
     print!(rt; "The proved mover answers: ")?;
     rt.write_all(RefusalLine::of(judged.number, judged.z).bytes())?;
     let z = judged.z.0;
-    print!(rt;
-        "The order is wrong, and no retry helps.\n\
-        The second number shows why: address {z} goes to the slot of address 0, and no smaller address but 0 itself does.\n\
-        Every address x shares its slot with x xor {z}, as above. Read both numbers to the site that sent the order: they can try it by hand.\n"
+    println!(rt; "The order is wrong, and no retry helps.")?;
+    number(rt, "The second number shows why: address ", z)?;
+    println!(rt; " goes to the slot of address 0, and no smaller address but 0 itself does.")?;
+    number(rt, "Every address x shares its slot with x xor ", z)?;
+    println!(rt;
+        ", as above. Read both numbers to the site that sent the order: they can try it by hand."
     )
 }

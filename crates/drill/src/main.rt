@@ -2,7 +2,7 @@
 // What finds, judges, moves and marks is in the crates below; here are the words of the lessons, and the wrong mover that they warn of.
 #![tactic(auto)]
 
-mod say; // say.rt: rows of bits
+mod say; // say.rt: lines piece by piece, rows of bits
 mod wrong; // wrong.rt: THE WRONG MOVER, for the first lesson alone
 mod late; // late.rt: the first lesson, the late answer
 mod busy; // busy.rt: the second lesson, the busy matrix
@@ -33,7 +33,8 @@ fn named<R: Env + Files + Input + Print, E: Print>(rt: &R, err: &E) -> io::Resul
     let Ok(mut order) = streams::open(rt, name) else {
         // The path goes there as bytes, since it need not be text.
         err.write_all(name)?;
-        return println!(err; " can't be opened: {CALL}");
+        print!(err; " can't be opened")?;
+        return println!(err; ": {CALL}");
     };
     let mut text = text_room();
     let n = fill(&mut order, &mut text);
@@ -52,7 +53,8 @@ fn main(rt: HostRuntime) -> io::Result<()> {
     let err = rt.stderr();
     let count = word_count(&rt);
     if 2 < count {
-        return println!(&err; "too many words: {CALL}");
+        print!(&err; "too many words")?;
+        return println!(&err; ": {CALL}");
     }
     if count == 2 {
         return named(&rt, &err);

@@ -1,6 +1,6 @@
 // The question round: where does an address go?
 use crate::say;
-use crate::say::Bits;
+use crate::say::{bits, number};
 use addresses::target_of;
 use bank::{Address, power};
 use lessons::{Mark, mark_of};
@@ -46,14 +46,15 @@ fn work_out_bit<R: Print>(
     row: u32,
 ) -> io::Result<()> {
     let n = order.geometry.n;
-    println!(rt;
-        "  bit {i}: row {}, address {}, ones in both {}, c has {}, so {}",
-        Bits { vector: row, n },
-        Bits { vector: x, n },
-        (row & x).count_ones(),
-        bit_of(order.complement, i),
-        bit_of(y, i)
-    )
+    number(rt, "  bit ", i)?;
+    print!(rt; ": row ")?;
+    bits(rt, row, n)?;
+    print!(rt; ", address ")?;
+    bits(rt, x, n)?;
+    number(rt, ", ones in both ", (row & x).count_ones())?;
+    number(rt, ", c has ", bit_of(order.complement, i))?;
+    number(rt, ", so ", bit_of(y, i))?;
+    println!(rt)
 }
 
 // Ax xor c, bit by bit.
@@ -62,10 +63,11 @@ fn work_out<R: Print>(rt: &R, order: Order, x: u32, y: u32) -> io::Result<()> {
     for (i, row) in (0..n).zip(order.rows) {
         work_out_bit(rt, order, x, y, i, row)?;
     }
-    println!(rt;
-        "  address {x} goes to {}, which is {y}",
-        Bits { vector: y, n }
-    )
+    number(rt, "  address ", x)?;
+    print!(rt; " goes to ")?;
+    bits(rt, y, n)?;
+    number(rt, ", which is ", y)?;
+    println!(rt)
 }
 
 // The order, and how a target is worked out.
@@ -73,15 +75,12 @@ fn show<R: Print>(rt: &R, order: Order) -> io::Result<()> {
     let n = order.geometry.n;
     println!(rt; "The rows of A, and c, bit 0 first:")?;
     say::rows(rt, &order.rows, n)?;
-    print!(rt;
-        "  c: {}\n\
-        Bit i of the target is 1 where row i and the address have an odd number of ones in both.\n\
-        Where c has a 1, it is the other way round.\n",
-        Bits {
-            vector: order.complement,
-            n
-        }
-    )
+    print!(rt; "  c: ")?;
+    bits(rt, order.complement, n)?;
+    println!(rt;
+        "\nBit i of the target is 1 where row i and the address have an odd number of ones in both."
+    )?;
+    println!(rt; "Where c has a 1, it is the other way round.")
 }
 
 // Asks for the target of x, and marks the answer: whether it was right, where there was one.
@@ -91,7 +90,8 @@ fn ask<R: Print, I: Read>(
     order: Order,
     x: u32,
 ) -> io::Result<Option<bool>> {
-    println!(rt; "Where does address {x} go?")?;
+    number(rt, "Where does address ", x)?;
+    println!(rt; " go?")?;
     let mut room = [0u8; LINE];
     let Some(answer) = line(answers, &mut room) else {
         return Ok(None);
@@ -124,5 +124,7 @@ pub(crate) fn hold<R: Print + Input>(rt: &R, order: Order) -> io::Result<()> {
         right += u64::from(is_right);
         asked += 1;
     }
-    println!(rt; "{right} right of {asked}")
+    print!(rt; "{right}")?;
+    number(rt, " right of ", asked)?;
+    println!(rt)
 }

@@ -58,7 +58,7 @@ pub fn send_all<R: Eprint>(
     let mut s = State::fresh();
     for k in 0..total {
         s = send_step(plan, s, k, again, area0, area1, memory);
-        let _ = say_step(rt, progress, k / each, each, k + 1, total);
+        say_step(rt, progress, k / each, each, k + 1, total);
     }
-    let _ = say_end(rt, progress, total);
+    say_end(rt, progress, total);
 }

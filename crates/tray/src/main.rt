@@ -36,10 +36,10 @@ fn how_to_say<E: IsTerminal>(err: &E) -> Progress {
 // Says that no byte of the run is left in the other area and in memory, after a look at every byte of them.
 fn look<E: Print>(err: &E, spare: &[u8], memory: &[u8]) -> io::Result<()> {
     if !all_zero(spare) {
-        return println!(err; "the other area isn't zero in every byte");
+        return say::not_blanked(err, "the other area");
     }
     if !all_zero(memory) {
-        return println!(err; "the memory isn't zero in every byte");
+        return say::not_blanked(err, "the memory");
     }
     println!(err; "the other area and the memory are zero in every byte")
 }
@@ -68,11 +68,7 @@ fn answer<R: Print + Eprint + Alloc, E: Print + Eprint + IsTerminal>(
             Ok(())
         }
         Delivery::Refused(number, z) => err.write_all(RefusalLine::of(number, z).bytes()),
-        Delivery::NoRoom(size) => {
-            println!(err;
-                "the run has {size} bytes and doesn't fit: tray has {AREA} bytes an area and {MEMORY} bytes of memory"
-            )
-        }
+        Delivery::NoRoom(size) => say::no_room(err, size, AREA, MEMORY),
     }
 }
 

@@ -45,6 +45,17 @@ fn file<R: Env + Files + Print + Eprint + Alloc>(
     }
 }
 
+// How much is zero after a delivery that blanks. Both were marked whole, so the counts tell a byte too many that was blanked as they tell one too
+// few. Each piece of the line is handed over by a call of its own: where the line can't be said whole, what stands before the piece that fails is
+// said.
+fn tell_zeros<R: Print>(rt: &R, spare: &[u8], memory: &[u8]) -> io::Result<()> {
+    print!(rt; "zero: ")?;
+    rt.print(zeros(spare))?;
+    print!(rt; " of the other area, ")?;
+    rt.print(zeros(memory))?;
+    println!(rt; " of memory")
+}
+
 // The three buffers are passed on one by one, as `deliver` takes them: a struct would only be taken apart again.
 fn answer<R: Print + Eprint>(
     rt: &R,
@@ -60,17 +71,16 @@ fn answer<R: Print + Eprint>(
         Delivery::Done => {
             rt.write_all(run)?;
             if blanks {
-                // Both were marked whole, so the counts tell a byte too many that was blanked as they tell one too few.
-                println!(rt;
-                    "zero: {} of the other area, {} of memory",
-                    zeros(spare),
-                    zeros(memory)
-                )?;
+                tell_zeros(rt, spare, memory)?;
             }
             Ok(())
         }
         Delivery::Refused(number, z) => rt.write_all(RefusalLine::of(number, z).bytes()),
-        Delivery::NoRoom(size) => println!(rt; "no room for {size}"),
+        Delivery::NoRoom(size) => {
+            print!(rt; "no room for ")?;
+            rt.print(size)?;
+            println!(rt)
+        }
     }
 }
 
