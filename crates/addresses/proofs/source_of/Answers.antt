@@ -57,6 +57,8 @@ returns-in-Ok-2 c =
 
 pub returns-in-Err : goal.returns-in-Err
 returns-in-Err c =
+    let a = c.args in
     let formed = sym c.in_ok-check_form.ensures in
-    rw c.from-in-Err.ensures
-    (singular_solved _ _ _ c.power-size.ensures formed _ (c.in-Err.ensures ∙ as_long c.args.order _ (search rules) formed))
+    let solved = c.in-Err.ensures ∙ as_long a.order _ (search rules) formed in
+    let given = singular_solved a.order a.y.0 c.power-size.result c.power-size.ensures formed c.in-Err.z solved in
+    grind arith

@@ -7,6 +7,7 @@ use native.Mathlib.Omega.{arith}
 use lib.ListN.{length, length-append}
 use lib.Pow.{pow_mono}
 use lib.Seq.{append_snoc}
+use Rattle.std.proofs.lemmas.Grind.{common_steps}
 use Rattle.std.proofs.lemmas.List.{append-nil}
 use Rattle.algebra.specs.Matrix.{applied}
 use Rattle.algebra.specs.Vector.{WORD}
@@ -28,7 +29,7 @@ module _ (rows rest ahead passed : List ℕ) (row : ℕ) (whole : rows ≡ rest 
 pub loop-row-init : goal.loop-row-init
 unfolding applied
 loop-row-init c =
-    let all : c.into_iter-row-iterator.result.iter.rest.now ≡ c.args.rows.now = cc in
+    let all : c.into_iter-row-iterator.result.iter.rest.now ≡ c.args.rows.now = grind (arith, common_steps) in
     ([], sym (append-nil _ ∙ all), refl)
 
 pub overflow_mul-y : goal.overflow_mul-y
